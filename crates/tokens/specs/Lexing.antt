@@ -2,7 +2,7 @@
 use mathlib.Core.Path.{_≡_}
 use mathlib.Core.Bool.{Bool, true, false, cond, _&&_}
 use mathlib.Core.List.{List, [], _∷_, _++_}
-use Prim.Native.Nat.{ℕ, zero, suc, _+_}
+use Prim.Native.Nat.{ℕ, zero, suc, _+_, _-_}
 use lib.Dec.{leb, ltb}
 use lib.ListN.{length, getD, take, drop}
 use Rattle.std.specs.declared.option.Option.{Option}
@@ -97,3 +97,7 @@ tokens text = tokensFrom (length text) text 0
 abbrev pub Rows : Result (List Token) TokenFault → List Token → Result ℕ TokenFault → Type 0
 Rows (Ok ts) table r = (r ≡ Ok (length ts)) × (take (length ts) table ≡ ts)
 Rows (Err e) table r = r ≡ Err e
+
+-- The bytes of a token.
+abbrev pub bytesOf : List ℕ → Token → List ℕ
+bytesOf text t = take (t .end - t .from) (drop (t .from) text)

@@ -11,7 +11,7 @@ ghost use Rattle.chars.specs.Classes.{classOf};
 ghost use Rattle.chars.specs.Runs.{gap, run};
 ghost use Rattle.chars.specs.declared.Class.the-variants.{Hash, Colon, Digit, Symbol};
 ghost use Rattle.tokens.specs.Numbers.{digitOf, digitIn, numeralValue, numeral, low16, valueOf, literalValue, literal};
-ghost use Rattle.tokens.specs.Lexing.{startsSymbol, lexeme, next, tokens, Rows};
+ghost use Rattle.tokens.specs.Lexing.{startsSymbol, lexeme, next, tokens, Rows, bytesOf};
 use chars::Class;
 use chars::class_of;
 use chars::skip_gap;
@@ -293,4 +293,13 @@ pub fn lex(text: &[u8], table: &mut [Token; 4096]) -> Result<usize, TokenFault>
         at = token.end;
     }
     Ok(count)
+}
+
+// The bytes of a token; as many of them as the text has.
+pub fn bytes_of<'a>(text: &'a [u8], token: Token) -> &'a [u8]
+    ensures { λ r. ⌜ now r ≡ bytesOf (now (text .entry)) token ⌝ }
+{
+    let end = token.end.min(text.len());
+    let from = token.from.min(end);
+    &text[from..end]
 }
