@@ -15,7 +15,7 @@ pub returns : need.returns
 returns c =
     let e : Some (record { from = c .skip-gap-from .result; end = c .piece-end .result }) ≡ piece (c .args .script .now) (c .args .at) = search needs in
     record {
-      result = e;
+      result = search needs;
       within = subst (Within (c .args .script .now) (c .args .at)) (sym e) (piece-within (c .args .script .now) (c .args .at) (c .pre));
       next = next-some (c .args .script .now) (c .args .at) _ (sym e);
       law = only-cut (c .args .script .now);
