@@ -1,1 +1,3 @@
 pub mod Exact
+pub mod GapSpelt
+pub mod GapOnly

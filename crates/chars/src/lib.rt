@@ -5,6 +5,7 @@ ghost use Prim.Native.Nat.{ℕ, _+_, _≤_};
 ghost use lib.ListN.{length, drop};
 ghost use Rattle.chars.specs.Classes.{classes, classOf, isMark, isBlank, isWord, Exactly};
 ghost use Rattle.chars.specs.Runs.{gap, run};
+ghost use Rattle.chars.specs.Gaps.{Skipped};
 
 #[derive(Clone, Copy)]
 pub enum Class {
@@ -92,6 +93,7 @@ pub fn skip_gap(text: &[u8], at: usize) -> usize
     requires { ⌜ at ≤ length (now text) ⌝ }
     ensures end { λ r. ⌜ r ≡ at + gap false (drop at (now (text .entry))) ⌝ }
     ensures within { λ r. ⌜ r ≤ length (now (text .entry)) ⌝ }
+    ensures law { λ r. ⌜ Skipped (now (text .entry)) at r ⌝ }
 {
     let mut end = at;
     let mut comment = false;

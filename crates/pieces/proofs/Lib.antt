@@ -1,0 +1,4 @@
+pub mod Parentheses
+pub mod Atoms
+pub mod CutLaw
+pub mod Onward
