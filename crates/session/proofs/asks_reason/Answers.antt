@@ -1,0 +1,6 @@
+use Rattle.session.specs.Records.{asksReason}
+use Rattle.session.proofs.asks_reason.Needs as need
+
+pub returns : need.returns
+unfolding asksReason
+returns c = c .same .ensures

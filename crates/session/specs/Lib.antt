@@ -1,0 +1,6 @@
+pub mod Refusals
+pub mod Records
+pub mod Steps
+pub mod Table
+pub mod Views
+pub mod Laws
