@@ -2,7 +2,7 @@
 use mathlib.Core.Path.{_≡_}
 use mathlib.Core.Bool.{Bool, true, false, cond}
 use mathlib.Core.List.{List, [], _∷_, _++_}
-use Prim.Native.Nat.{ℕ, _+_, _-_}
+use Prim.Native.Nat.{ℕ, _+_, _-_, _≤_}
 use lib.Chars.{codes}
 use lib.Dec.{ltb, eqb}
 use lib.ListN.{length, take, drop}
@@ -98,4 +98,5 @@ pub record Replied (a : Answer) (page page′ : List ℕ) (r : Reply) : Type 0 w
   pub place : r .place ≡ a .place
   pub count : r .count ≡ length (a .bytes)
   pub front : take (r .count) page′ ≡ a .bytes
+  pub within : r .count ≤ length page
   pub behind : drop (r .count) page′ ≡ drop (r .count) page

@@ -218,6 +218,13 @@ impl Session {
         }
     }
 
+    // An `exit` was accepted.
+    pub fn has_ended(&self) -> bool
+        ensures { λ r. ⌜ r ≡ view (now (self .entry)) .ended ⌝ }
+    {
+        self.ended
+    }
+
     // Gives a command: a text, and a page for the response.
     pub fn command(&mut self, text: &[u8], page: &mut [u8]) -> Reply
         ensures step { λ r. ⌜ view (now (self .exit)) ≡ step (view (now (self .entry))) (given (now (text .entry)) (now (page .entry))) ⌝ }

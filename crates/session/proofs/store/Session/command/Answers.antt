@@ -1,4 +1,5 @@
 use mathlib.Core.Path.{_≡_, refl, sym, ap, _∙_}
+use native.Mathlib.Omega.{arith}
 use borrow.Author.Needs.{needs}
 use Rattle.session.specs.Steps.{acted, spoken}
 use Rattle.session.specs.Table.{answer}
@@ -9,7 +10,7 @@ use Rattle.session.proofs.store.Session.command.Needs as need
 pub returns-then-page-lt8192 : need.returns-then-page-lt8192
 returns-then-page-lt8192 c =
     let x = small-step (view (c .args .self .now)) (given (c .args .text .now) (c .args .page .now)) (search needs) in
-    record { step = sym (x .0); answer = replied-by _ _ (sym (x .1)) (record { number = refl; place = refl; count = refl; front = refl; behind = refl }) }
+    record { step = sym (x .0); answer = replied-by _ _ (sym (x .1)) (record { number = refl; place = refl; count = refl; front = refl; within = omega arith; behind = refl }) }
 
 pub returns : need.returns
 returns c =
