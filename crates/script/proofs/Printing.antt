@@ -11,9 +11,9 @@ use Rattle.std.specs.declared.result.Result.{Result}
 use Rattle.std.specs.declared.result.Result.the-variants.{Ok, Err}
 use Rattle.page.specs.Pages.{complaint}
 use Rattle.pieces.specs.Cuts.{pieces}
-use Rattle.session.specs.Steps.{State, newState, Given}
-use Rattle.session.specs.Table.{answer, step, run, session}
-use Rattle.session.proofs.Walks.{run-then}
+use Rattle.rules.specs.Steps.{State, newState, Given}
+use Rattle.rules.specs.Table.{answer, step, run, session}
+use Rattle.rules.proofs.Walks.{run-then}
 use Rattle.script.specs.Transcripts.{on, exits, responses, transcript, responsesFrom}
 
 pub extended : {T E : Type 0} (v v′ xs ys : List ℕ) (r : Result T E) → v′ ≡ cond (isOk r) (v ++ xs) v → xs ≡ ys → made r (λ _. v′ ≡ v ++ ys)

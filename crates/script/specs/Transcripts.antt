@@ -6,9 +6,9 @@ use lib.Dec.{ltb, eqb}
 use lib.ListN.{length}
 use Rattle.page.specs.Pages.{complaint}
 use Rattle.pieces.specs.Cuts.{pieces}
-use Rattle.session.specs.Records.{reading, asked}
-use Rattle.session.specs.Steps.{State, Given, Answer}
-use Rattle.session.specs.Table.{answer, step, isExit, session}
+use Rattle.rules.specs.Records.{reading, asked}
+use Rattle.rules.specs.Steps.{State, Given, Answer}
+use Rattle.rules.specs.Table.{answer, step, isExit, session}
 
 -- A piece of a script is given as a command on a page of 8,192 bytes.
 abbrev pub on : List ℕ → Given

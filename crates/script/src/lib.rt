@@ -6,7 +6,7 @@ ghost use Prim.Native.Nat.{ℕ, _≤_};
 ghost use lib.ListN.{length};
 ghost use Rattle.std.specs.Of.Vec.{vec-items};
 ghost use Rattle.std.specs.Vec.{made};
-ghost use Rattle.session.specs.Table.{answer, step};
+ghost use Rattle.rules.specs.Table.{answer, step};
 ghost use Rattle.session.specs.Views.{view};
 ghost use Rattle.script.specs.Transcripts.{on, transcript};
 use page::error;

@@ -3,7 +3,7 @@ use mathlib.Core.List.{List}
 use Prim.Native.Nat.{ℕ}
 use lib.ListN.{length}
 use Rattle.session.specs.declared.store.Session.{Session}
-use Rattle.session.specs.Steps.{State, Given}
+use Rattle.rules.specs.Steps.{State, Given}
 
 abbrev pub view : Session → State
 view s = record { stands = record { logic = s .logic; depth = s .depth }; mode = s .mode; ended = s .ended }

@@ -5,31 +5,31 @@ ghost use lib.ListN.{length};
 ghost use Rattle.std.specs.declared.result.Result.the-variants.{Ok};
 ghost use Rattle.page.specs.Pages.{Wrote};
 ghost use Rattle.tokens.specs.Lexing.{bytesOf};
-ghost use Rattle.session.specs.declared.types.Mode.the-variants.{Assert};
-ghost use Rattle.session.specs.declared.types.Said.the-variants.{Success};
-ghost use Rattle.session.specs.Records.{logicOf, asksReason, infoOf, reading, requestOf, set-logic, push, pop, reason, reset, exit, unsupported};
-ghost use Rattle.session.specs.Steps.{State, newState, logicSet, pushed, popped, executed, acted, printed, spoken, Replied};
-ghost use Rattle.session.specs.Table.{answer, step};
+ghost use Rattle.rules.specs.declared.Mode.the-variants.{Assert};
+ghost use Rattle.rules.specs.declared.Said.the-variants.{Success};
+ghost use Rattle.rules.specs.Records.{logicOf, asksReason, infoOf, reading, requestOf, set-logic, push, pop, reason, reset, exit, unsupported};
+ghost use Rattle.rules.specs.Steps.{State, newState, logicSet, pushed, popped, executed, acted, printed, spoken, Replied};
+ghost use Rattle.rules.specs.Table.{answer, step, session};
+ghost use Rattle.rules.specs.Laws.{Laws, InTurn};
 ghost use Rattle.session.specs.Views.{view, given};
 use crate::store::Session;
-use crate::types::Fault;
-use crate::types::FaultFromForm;
-use crate::types::FaultFromToken;
-use crate::types::Logic;
-use crate::types::Mode;
-use crate::types::Reply;
-use crate::types::Said;
 use forms::Command;
 use grammar::items::Item;
 use page::error;
 use page::put;
+use rules::Fault;
+use rules::FaultFromForm;
+use rules::FaultFromToken;
+use rules::Logic;
+use rules::Mode;
+use rules::Reply;
+use rules::Said;
 use tokens::Kind;
 use tokens::Token;
 use tokens::bytes_of;
 use words::same;
 
 pub mod store;
-pub mod types;
 
 // The logic of this name.
 fn logic_of(name: &[u8]) -> Option<Logic>
@@ -207,6 +207,7 @@ impl Session {
     // A session in which nothing stands.
     pub fn new() -> Session
         ensures view { λ r. ⌜ view r ≡ newState ⌝ }
+        ensures laws { λ r. ⌜ Laws session ⌝ }
     {
         Session {
             logic: None,
@@ -222,11 +223,11 @@ impl Session {
     pub fn has_ended(&self) -> bool
         ensures { λ r. ⌜ r ≡ view (now (self .entry)) .ended ⌝ }
     {
-        self.ended
+        let ended = self.ended;
+        ended
     }
 
-    // Gives a command: a text, and a page for the response.
-    pub fn command(&mut self, text: &[u8], page: &mut [u8]) -> Reply
+    fn respond(&mut self, text: &[u8], page: &mut [u8]) -> Reply
         ensures step { λ r. ⌜ view (now (self .exit)) ≡ step (view (now (self .entry))) (given (now (text .entry)) (now (page .entry))) ⌝ }
         ensures answer { λ r. ⌜ Replied (answer (view (now (self .entry))) (given (now (text .entry)) (now (page .entry)))) (now (page .entry)) (now (page .exit)) r ⌝ }
     {
@@ -238,6 +239,15 @@ impl Session {
             };
         }
         reply(page, self.act(text))
+    }
+
+    // Gives a command: a text, and a page for the response.
+    pub fn command(&mut self, text: &[u8], page: &mut [u8]) -> Reply
+        ensures step { λ r. ⌜ view (now (self .exit)) ≡ step (view (now (self .entry))) (given (now (text .entry)) (now (page .entry))) ⌝ }
+        ensures answer { λ r. ⌜ Replied (answer (view (now (self .entry))) (given (now (text .entry)) (now (page .entry)))) (now (page .entry)) (now (page .exit)) r ⌝ }
+        ensures turn { λ r. ⌜ InTurn (view (now (self .entry))) (given (now (text .entry)) (now (page .entry))) (now (page .entry)) (now (page .exit)) r (view (now (self .exit))) ⌝ }
+    {
+        self.respond(text, page)
     }
 }
 

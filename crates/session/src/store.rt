@@ -1,7 +1,7 @@
 // The memory of a session.
-use crate::types::Logic;
-use crate::types::Mode;
 use grammar::items::Item;
+use rules::Logic;
+use rules::Mode;
 use tokens::Token;
 
 // What stands, and room to read a command in.

@@ -3,8 +3,8 @@ use borrow.Author.Needs.{needs}
 use Prim.Native.Nat.{_-_}
 use native.Mathlib.Omega.{arith}
 use lib.ListN.{length, take}
-use Rattle.session.specs.Steps.{Replied}
-use Rattle.session.specs.Table.{answer, step}
+use Rattle.rules.specs.Steps.{Replied}
+use Rattle.rules.specs.Table.{answer, step}
 use Rattle.session.specs.Views.{view}
 use mathlib.Core.List.{_++_}
 use Rattle.std.specs.Of.Vec.{vec-items}

@@ -1,4 +1,4 @@
-use Rattle.session.specs.Records.{asksReason}
+use Rattle.rules.specs.Records.{asksReason}
 use Rattle.session.proofs.asks_reason.Needs as need
 
 pub returns : need.returns

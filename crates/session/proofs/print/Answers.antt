@@ -1,6 +1,6 @@
 use mathlib.Core.Path.{sym, subst}
 use Rattle.page.specs.Pages.{Wrote}
-use Rattle.session.specs.Steps.{printed}
+use Rattle.rules.specs.Steps.{printed}
 use Rattle.session.proofs.print.Needs as need
 
 pub returns-in-Unsupported : need.returns-in-Unsupported

@@ -1,5 +1,5 @@
 use borrow.Author.Needs.{needs}
-use Rattle.session.specs.Records.{reading}
+use Rattle.rules.specs.Records.{reading}
 use Rattle.session.proofs.read.Needs as need
 
 pub returns-in-Break-count : need.returns-in-Break-count

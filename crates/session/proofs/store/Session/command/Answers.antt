@@ -1,21 +1,9 @@
-use mathlib.Core.Path.{_≡_, refl, sym, ap, _∙_}
-use native.Mathlib.Omega.{arith}
-use borrow.Author.Needs.{needs}
-use Rattle.session.specs.Steps.{acted, spoken}
-use Rattle.session.specs.Table.{answer}
-use Rattle.session.specs.Views.{view, given}
-use Rattle.session.proofs.Bridge.{small-step, acted-step, replied-by}
+use Rattle.rules.proofs.Whole.{in-turn}
 use Rattle.session.proofs.store.Session.command.Needs as need
 
-pub returns-then-page-lt8192 : need.returns-then-page-lt8192
-returns-then-page-lt8192 c =
-    let x = small-step (view (c .args .self .now)) (given (c .args .text .now) (c .args .page .now)) (search needs) in
-    record { step = sym (x .0); answer = replied-by _ _ (sym (x .1)) (record { number = refl; place = refl; count = refl; front = refl; within = omega arith; behind = refl }) }
-
 pub returns : need.returns
-returns c =
-    let x = acted-step (view (c .args .self .now)) (given (c .args .text .now) (c .args .page .now)) (search needs) in
-    record {
-      step = ap (λ y. y .0) (c .act .ensures) ∙ sym (x .0);
-      answer = replied-by _ _ (ap (λ y. spoken (y .1)) (c .act .ensures) ∙ sym (x .1)) (c .reply .ensures);
-    }
+returns c = record {
+  step = c .respond .ensures .step;
+  answer = c .respond .ensures .answer;
+  turn = in-turn _ _ _ (c .respond .ensures .step) (c .respond .ensures .answer);
+}

@@ -1,7 +1,7 @@
 // The words of a session: logics, modes, faults and replies.
 ghost use mathlib.Core.Path.{_≡_};
-ghost use Rattle.session.specs.declared.types.Fault.the-variants.{Token, Form};
-ghost use Rattle.session.specs.Refusals.{numberOf, placeOf};
+ghost use Rattle.rules.specs.declared.Fault.the-variants.{Token, Form};
+ghost use Rattle.rules.specs.Refusals.{numberOf, placeOf};
 use forms::FormFault;
 use tokens::TokenFault;
 

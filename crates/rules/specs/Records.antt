@@ -13,10 +13,10 @@ use Rattle.tokens.specs.Lexing.{tokens, bytesOf}
 use Rattle.forms.specs.declared.Command.{Command}
 use Rattle.forms.specs.declared.Command.the-variants.{SetLogic, DeclareSort, DeclareFun, DeclareConst, Assert, Push, Pop, CheckSat, CheckSatAssuming, GetValue, GetInfo, Reset, Exit, Other}
 use Rattle.forms.specs.Forms.{formed}
-use Rattle.session.specs.declared.types.Logic.{Logic}
-use Rattle.session.specs.declared.types.Logic.the-variants.{QfUf, QfBv}
-use Rattle.session.specs.declared.types.Fault.{Fault}
-use Rattle.session.specs.declared.types.Fault.the-variants.{Token, Form}
+use Rattle.rules.specs.declared.Logic.{Logic}
+use Rattle.rules.specs.declared.Logic.the-variants.{QfUf, QfBv}
+use Rattle.rules.specs.declared.Fault.{Fault}
+use Rattle.rules.specs.declared.Fault.the-variants.{Token, Form}
 
 -- What a command asks of a session.
 pub data Request : Type 0 where

@@ -12,16 +12,16 @@ use Rattle.std.specs.declared.result.Result.{Result}
 use Rattle.std.specs.declared.result.Result.the-variants.{Ok, Err}
 use Rattle.page.specs.Pages.{complaint}
 use Rattle.forms.specs.declared.Command.{Command}
-use Rattle.session.specs.declared.types.Logic.{Logic}
-use Rattle.session.specs.declared.types.Mode.{Mode}
-use Rattle.session.specs.declared.types.Mode.the-variants.{Start, Assert, Sat, Unsat}
-use Rattle.session.specs.declared.types.Fault.{Fault}
-use Rattle.session.specs.declared.types.Fault.the-variants as faults
-use Rattle.session.specs.declared.types.Said.{Said}
-use Rattle.session.specs.declared.types.Said.the-variants.{Success, Unsupported}
-use Rattle.session.specs.declared.types.Reply.{Reply}
-use Rattle.session.specs.Refusals.{numberOf, placeOf}
-use Rattle.session.specs.Records.{Record, newRecord, Request, set-logic, push, pop, reason, reset, exit, unsupported, requestOf, reading, obeyed}
+use Rattle.rules.specs.declared.Logic.{Logic}
+use Rattle.rules.specs.declared.Mode.{Mode}
+use Rattle.rules.specs.declared.Mode.the-variants.{Start, Assert, Sat, Unsat}
+use Rattle.rules.specs.declared.Fault.{Fault}
+use Rattle.rules.specs.declared.Fault.the-variants as faults
+use Rattle.rules.specs.declared.Said.{Said}
+use Rattle.rules.specs.declared.Said.the-variants.{Success, Unsupported}
+use Rattle.rules.specs.declared.Reply.{Reply}
+use Rattle.rules.specs.Refusals.{numberOf, placeOf}
+use Rattle.rules.specs.Records.{Record, newRecord, Request, set-logic, push, pop, reason, reset, exit, unsupported, requestOf, reading, obeyed}
 
 -- What stands, the mode, and whether an `exit` was accepted.
 pub record State : Type 0 where

@@ -4,8 +4,8 @@ use Rattle.tokens.specs.declared.TokenFault.{TokenFault}
 use Rattle.tokens.specs.declared.TokenFault.the-variants.{Unexpected, Malformed, TooLong}
 use Rattle.forms.specs.declared.FormFault.{FormFault}
 use Rattle.forms.specs.declared.FormFault.the-variants.{Unclosed, Nested, Outside}
-use Rattle.session.specs.declared.types.Fault.{Fault}
-use Rattle.session.specs.declared.types.Fault.the-variants.{Page, Text, Ended, Token, Form, Mode, Logic, Depth}
+use Rattle.rules.specs.declared.Fault.{Fault}
+use Rattle.rules.specs.declared.Fault.the-variants.{Page, Text, Ended, Token, Form, Mode, Logic, Depth}
 
 abbrev pub numberOf : Fault → ℕ
 numberOf Page = 1

@@ -15,14 +15,14 @@ use Rattle.forms.specs.declared.FormFault.{FormFault}
 use Rattle.forms.specs.declared.FormFault.the-variants.{Unclosed, Nested, Outside}
 use Rattle.forms.specs.declared.Command.{Command}
 use Rattle.page.specs.Pages.{complaint}
-use Rattle.session.specs.declared.types.Logic.{Logic}
-use Rattle.session.specs.declared.types.Mode.{Mode}
-use Rattle.session.specs.declared.types.Mode.the-variants.{Start, Assert, Sat, Unsat}
-use Rattle.session.specs.declared.types.Fault.{Fault}
-use Rattle.session.specs.declared.types.Fault.the-variants as faults
-use Rattle.session.specs.declared.types.Said.the-variants.{Success, Unsupported}
-use Rattle.session.specs.Records.{Record, Request, set-logic, push, pop, reason, reset, exit, unsupported, reading, asked, feed}
-use Rattle.session.specs.Steps.{State, newState, isStart, Given, Answer, printed}
+use Rattle.rules.specs.declared.Logic.{Logic}
+use Rattle.rules.specs.declared.Mode.{Mode}
+use Rattle.rules.specs.declared.Mode.the-variants.{Start, Assert, Sat, Unsat}
+use Rattle.rules.specs.declared.Fault.{Fault}
+use Rattle.rules.specs.declared.Fault.the-variants as faults
+use Rattle.rules.specs.declared.Said.the-variants.{Success, Unsupported}
+use Rattle.rules.specs.Records.{Record, Request, set-logic, push, pop, reason, reset, exit, unsupported, reading, asked, feed}
+use Rattle.rules.specs.Steps.{State, newState, isStart, Given, Answer, printed}
 
 -- The rows, in the order in which they are tried.
 pub data Row : Type 0 where

@@ -19,16 +19,16 @@ use Rattle.forms.specs.Forms.{formed}
 use Rattle.forms.specs.declared.FormFault.the-variants.{Unclosed, Nested, Outside}
 use Rattle.forms.specs.declared.Command.{Command}
 use Rattle.page.specs.Pages.{complaint}
-use Rattle.session.specs.declared.types.Logic.{Logic}
-use Rattle.session.specs.declared.types.Mode.{Mode}
-use Rattle.session.specs.declared.types.Fault.{Fault}
-use Rattle.session.specs.declared.types.Fault.the-variants as faults
-use Rattle.session.specs.declared.types.Said.{Said}
-use Rattle.session.specs.declared.types.Reply.{Reply}
-use Rattle.session.specs.Refusals.{numberOf, placeOf}
-use Rattle.session.specs.Records.{Record, newRecord, Request, set-logic, push, pop, reason, reset, exit, unsupported, requestOf, through, reading, asked, obeyed, feed}
-use Rattle.session.specs.Steps.{State, newState, isStart, refused, changed, executed, actedOn, acted, Given, Answer, printed, spoken, Replied}
-use Rattle.session.specs.Table.{misplaced, atStart, atByte, atNumber, atName, atList, atNesting, atForm, atLogic, atDepth, orNext, refusal, word, complained, response, answer, turned, isExit, learn, step}
+use Rattle.rules.specs.declared.Logic.{Logic}
+use Rattle.rules.specs.declared.Mode.{Mode}
+use Rattle.rules.specs.declared.Fault.{Fault}
+use Rattle.rules.specs.declared.Fault.the-variants as faults
+use Rattle.rules.specs.declared.Said.{Said}
+use Rattle.rules.specs.declared.Reply.{Reply}
+use Rattle.rules.specs.Refusals.{numberOf, placeOf}
+use Rattle.rules.specs.Records.{Record, newRecord, Request, set-logic, push, pop, reason, reset, exit, unsupported, requestOf, through, reading, asked, obeyed, feed}
+use Rattle.rules.specs.Steps.{State, newState, isStart, refused, changed, executed, actedOn, acted, Given, Answer, printed, spoken, Replied}
+use Rattle.rules.specs.Table.{misplaced, atStart, atByte, atNumber, atName, atList, atNesting, atForm, atLogic, atDepth, orNext, refusal, word, complained, response, answer, turned, isExit, learn, step}
 
 abbrev live : Record → Mode → State
 live r m = record { stands = r; mode = m; ended = false }
@@ -54,7 +54,7 @@ pairOf x = (x .0, spoken (x .1))
 core : (r : Record) (m : Mode) (q : Request) → outcome (live r m) q (chain (live r m) q) ≡ pairOf (executed (live r m) q)
 core r m (set-logic l p) = go (isStart m) l
   where
-    go : (b : Bool) (l : Option Logic) → outcome (live r m) (set-logic l p) (orNext (atStart (not b)) 30 (orNext (atLogic (set-logic l p)) 31 (0, 0))) ≡ pairOf (cond b (Rattle.session.specs.Steps.logicSet (live r m) l p) (refused (live r m) faults.Mode))
+    go : (b : Bool) (l : Option Logic) → outcome (live r m) (set-logic l p) (orNext (atStart (not b)) 30 (orNext (atLogic (set-logic l p)) 31 (0, 0))) ≡ pairOf (cond b (Rattle.rules.specs.Steps.logicSet (live r m) l p) (refused (live r m) faults.Mode))
     go true None = refl
     go true (Some l) = refl
     go false None = refl

@@ -1,0 +1,7 @@
+pub mod Bridge
+pub mod Walks
+pub mod Acceptance
+pub mod Strikes
+pub mod PushZero
+pub mod Stretches
+pub mod Whole

@@ -1,0 +1,5 @@
+pub mod Refusals
+pub mod Records
+pub mod Steps
+pub mod Table
+pub mod Laws
