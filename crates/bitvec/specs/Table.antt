@@ -11,8 +11,12 @@ use Rattle.bitvec.specs.Arithmetic.{bvnot, bvneg, bvadd, bvsub, bvmul, bvudiv,
 abbrev pub word : (ℕ → ℕ → ℕ → ℕ) → ℕ → ℕ → ℕ → Sort × ℕ
 word f width a b = (Bits (min width 16), f (min width 16) (a % 2 ^ min width 16) (b % 2 ^ min width 16))
 
+-- a truth value is 1 or 0
+abbrev pub truth : Test → ℕ
+truth t = cond t 1 0
+
 abbrev pub test : (ℕ → ℕ → ℕ → Test) → ℕ → ℕ → ℕ → Sort × ℕ
-test f width a b = (Bool, cond (f (min width 16) (a % 2 ^ min width 16) (b % 2 ^ min width 16)) 1 0)
+test f width a b = (Bool, truth (f (min width 16) (a % 2 ^ min width 16) (b % 2 ^ min width 16)))
 
 -- `concat` of w and v bits
 abbrev pub beside : ℕ → ℕ → ℕ → ℕ → Sort × ℕ

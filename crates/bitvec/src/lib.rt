@@ -2,6 +2,8 @@
 ghost use mathlib.Core.Path.{_≡_};
 ghost use Prim.Native.Nat.{ℕ, _+_, _-_, _%_, _^_, _<_, _≤_};
 ghost use Rattle.bitvec.specs.Arithmetic.{signed};
+ghost use Rattle.bitvec.specs.Examples.{Worked};
+ghost use Rattle.bitvec.specs.Laws.{Lawful};
 ghost use Rattle.bitvec.specs.Table.{applied, joined, Fitting};
 
 #[derive(Clone, Copy)]
@@ -65,9 +67,7 @@ fn join(width: u8, low: u8, a: u16, b: u16) -> (Sort, u16)
     (Sort::Bits(w + v), (upper | lower) as u16)
 }
 
-// The operation at a width, which counts as 16 if it is more, on the lowest bits of both operands.
-// `low` is the second operand's width in `Concat`, and of no account elsewhere.
-pub fn apply(op: Operation, width: u8, low: u8, a: u16, b: u16) -> (Sort, u16)
+fn computed(op: Operation, width: u8, low: u8, a: u16, b: u16) -> (Sort, u16)
     ensures defined { λ r. ⌜ r ≡ applied op width low a b ⌝ }
     ensures fits { λ r. ⌜ Fitting r ⌝ }
 {
@@ -97,4 +97,15 @@ pub fn apply(op: Operation, width: u8, low: u8, a: u16, b: u16) -> (Sort, u16)
         Operation::Sle => (Sort::Bool, u16::from(signed_of(x, w) <= signed_of(y, w))),
         Operation::Concat => join(width, low, a, b),
     }
+}
+
+// The operation at a width, which counts as 16 if it is more, on the lowest bits of both operands.
+// `low` is the second operand's width in `Concat`, and of no account elsewhere.
+pub fn apply(op: Operation, width: u8, low: u8, a: u16, b: u16) -> (Sort, u16)
+    ensures defined { λ r. ⌜ r ≡ applied op width low a b ⌝ }
+    ensures fits { λ r. ⌜ Fitting r ⌝ }
+    ensures laws { λ _. ⌜ Lawful ⌝ }
+    ensures examples { λ _. ⌜ Worked ⌝ }
+{
+    computed(op, width, low, a, b)
 }
