@@ -49,9 +49,38 @@ static PAIRS: [(u8, u8); 19] = [
 ];
 
 static ALL: [u16; 16] = [0, 1, 2, 3, 4, 5, 6, 7, 8, 9, 10, 11, 12, 13, 14, 15];
+
 static EDGES_8: [u16; 12] = [0, 1, 2, 7, 8, 9, 85, 127, 128, 129, 254, 255];
-static EDGES_15: [u16; 12] = [0, 1, 2, 14, 15, 16, 16383, 16384, 16385, 21845, 32766, 32767];
-static EDGES_16: [u16; 12] = [0, 1, 2, 15, 16, 17, 21845, 32767, 32768, 32769, 65534, 65535];
+
+static EDGES_15: [u16; 12] = [
+    0,
+    1,
+    2,
+    14,
+    15,
+    16,
+    16383,
+    16384,
+    16385,
+    21845,
+    32766,
+    32767,
+];
+
+static EDGES_16: [u16; 12] = [
+    0,
+    1,
+    2,
+    15,
+    16,
+    17,
+    21845,
+    32767,
+    32768,
+    32769,
+    65534,
+    65535,
+];
 
 fn operands(width: u8) -> &'static [u16] {
     match width {
@@ -65,37 +94,40 @@ fn operands(width: u8) -> &'static [u16] {
     }
 }
 
-// One line: the name and the widths, then for each first operand its answers with each second one, and their sort.
-// A number is one hexadecimal digit up to width 4, and four above.
-fn line(rt: &LibcRuntime, name: &str, op: Operation, width: u8, low: u8) -> io::Result<()> {
-    print!(rt, "{name} {width} {low}")?;
-    for a in operands(width) {
-        print!(rt, " ")?;
-        let mut sort = Sort::Bool;
-        for b in operands(low) {
-            let (s, n) = apply(op, width, low, *a, *b);
-            sort = s;
-            match s {
-                Sort::Bits(5..=16) => print!(rt, "{n:04x}")?,
-                _ => print!(rt, "{n:x}")?,
-            }
-        }
-        match sort {
-            Sort::Bool => print!(rt, ":Bool")?,
-            Sort::Bits(w) => print!(rt, ":{w}")?,
-        }
+// The width of an answer, and 0 for a truth value.
+fn bits(sort: Sort) -> u8 {
+    match sort {
+        Sort::Bool => 0,
+        Sort::Bits(w) => w,
+    }
+}
+
+// One line: the name, the widths and a first operand, then for each second operand the answer's width and number.
+fn line(rt: &LibcRuntime, name: &str, op: Operation, width: u8, low: u8, a: u16) -> io::Result<()> {
+    print!(rt, "{name} {width} {low} {a:x}:")?;
+    for b in operands(low) {
+        let (sort, n) = apply(op, width, low, a, *b);
+        let w = bits(sort);
+        print!(rt, " {w}.{n:x}")?;
     }
     println!(rt, "")
+}
+
+fn lines(rt: &LibcRuntime, name: &str, op: Operation, width: u8, low: u8) -> io::Result<()> {
+    for a in operands(width) {
+        line(rt, name, op, width, low, *a)?;
+    }
+    Ok(())
 }
 
 fn main(rt: LibcRuntime) -> io::Result<()> {
     for (op, name) in OPERATIONS {
         for width in WIDTHS {
-            line(&rt, name, op, width, width)?;
+            lines(&rt, name, op, width, width)?;
         }
     }
     for (width, low) in PAIRS {
-        line(&rt, "concat", Operation::Concat, width, low)?;
+        lines(&rt, "concat", Operation::Concat, width, low)?;
     }
     Ok(())
 }
