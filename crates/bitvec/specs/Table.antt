@@ -51,4 +51,4 @@ Fits Bool n = n < 2
 Fits (Bits w) n = n < 2 ^ w
 
 abbrev pub Fitting : Sort × ℕ → Type 0
-Fitting (s, n) = Fits s n
+Fitting r = Fits (r .0) (r .1)

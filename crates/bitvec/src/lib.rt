@@ -1,4 +1,4 @@
-// Bit-vector operations on widths up to 16: `apply` computes one of them, for any width and any operands.
+// Bit-vector operations on widths up to 16. `apply` computes one of them, for any width and any operands.
 ghost use mathlib.Core.Path.{_≡_};
 ghost use Prim.Native.Nat.{ℕ, _+_, _-_, _%_, _^_, _<_, _≤_};
 ghost use Rattle.bitvec.specs.Arithmetic.{signed};
@@ -6,6 +6,7 @@ ghost use Rattle.bitvec.specs.Examples.{Worked};
 ghost use Rattle.bitvec.specs.Laws.{Lawful};
 ghost use Rattle.bitvec.specs.Table.{applied, joined, Fitting};
 
+// The operations of the theory of bit-vectors: `Not` is its `bvnot`, and so on, and `Concat` its `concat`.
 #[derive(Clone, Copy)]
 pub enum Operation {
     Not,
@@ -27,14 +28,14 @@ pub enum Operation {
     Concat,
 }
 
-// What an answer is: a truth value, 0 or 1, or a bit-vector of so many bits.
+// The sort of an answer: a truth value, with the number 0 or 1, or a bit-vector of so many bits.
 #[derive(Clone, Copy)]
 pub enum Sort {
     Bool,
     Bits(u8),
 }
 
-// The lowest bits of a number, the other bits cleared.
+// The lowest bits of a number.
 fn masked(n: u16, width: u8) -> u16
     requires { ⌜ width ≤ 16 ⌝ }
     ensures { λ r. ⌜ r ≡ n % 2 ^ width ⌝ }
@@ -67,6 +68,7 @@ fn join(width: u8, low: u8, a: u16, b: u16) -> (Sort, u16)
     (Sort::Bits(w + v), (upper | lower) as u16)
 }
 
+// The operation itself, on the lowest bits of its operands.
 fn computed(op: Operation, width: u8, low: u8, a: u16, b: u16) -> (Sort, u16)
     ensures defined { λ r. ⌜ r ≡ applied op width low a b ⌝ }
     ensures fits { λ r. ⌜ Fitting r ⌝ }
@@ -99,8 +101,8 @@ fn computed(op: Operation, width: u8, low: u8, a: u16, b: u16) -> (Sort, u16)
     }
 }
 
-// The operation at a width, which counts as 16 if it is more, on the lowest bits of both operands.
-// `low` is the second operand's width in `Concat`, and of no account elsewhere.
+// One operation at a width, on the lowest bits of both operands; a width above 16 counts as 16.
+// `low` is the width of the second operand of `Concat`; no other operation reads it.
 pub fn apply(op: Operation, width: u8, low: u8, a: u16, b: u16) -> (Sort, u16)
     ensures defined { λ r. ⌜ r ≡ applied op width low a b ⌝ }
     ensures fits { λ r. ⌜ Fitting r ⌝ }
