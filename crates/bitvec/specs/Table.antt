@@ -7,16 +7,20 @@ use Rattle.bitvec.specs.declared.Sort.{Sort}
 use Rattle.bitvec.specs.declared.Sort.the-variants.{Bool, Bits}
 use Rattle.bitvec.specs.Arithmetic.{bvnot, bvneg, bvadd, bvsub, bvmul, bvudiv, bvurem, bvand, bvor, bvxor, bvshl, bvlshr, bvult, bvule, bvslt, bvsle, concat}
 
--- a width above 16 counts as 16, and of an operand only the lowest bits count
+-- f on the lowest w bits of two numbers
+abbrev pub lowest : {A : Type 0} → (ℕ → ℕ → ℕ → A) → ℕ → ℕ → ℕ → A
+lowest f w a b = f w (a % 2 ^ w) (b % 2 ^ w)
+
+-- operations at one width; a width above 16 counts as 16
 abbrev pub word : (ℕ → ℕ → ℕ → ℕ) → ℕ → ℕ → ℕ → Sort × ℕ
-word f width a b = (Bits (min width 16), f (min width 16) (a % 2 ^ min width 16) (b % 2 ^ min width 16))
+word f width a b = (Bits (min width 16), lowest f (min width 16) a b)
 
 -- a truth value is 1 or 0
 abbrev pub truth : Test → ℕ
 truth t = cond t 1 0
 
 abbrev pub test : (ℕ → ℕ → ℕ → Test) → ℕ → ℕ → ℕ → Sort × ℕ
-test f width a b = (Bool, truth (f (min width 16) (a % 2 ^ min width 16) (b % 2 ^ min width 16)))
+test f width a b = (Bool, truth (lowest f (min width 16) a b))
 
 -- `concat` of w and v bits
 abbrev pub beside : ℕ → ℕ → ℕ → ℕ → Sort × ℕ
