@@ -1,4 +1,5 @@
-/* The loop of tools/bench-bitvec in C: each operation over all operand pairs at width 10. */
+/* The loops of tools/bench-bitvec in C: each operation over all operand pairs at width 10.
+   The first operand runs on past its width, so that all pairs come sixteen times. LOOP names the loop to run. */
 #include <stdint.h>
 #include <stdio.h>
 
@@ -23,7 +24,7 @@ static int signed_of(unsigned n, unsigned w) {
     return (int)n < size / 2 ? (int)n : (int)n - size;
 }
 
-static struct answer apply(struct row r, unsigned a, unsigned b) {
+static inline __attribute__((always_inline)) struct answer apply(struct row r, unsigned a, unsigned b) {
     unsigned w = r.width, v = r.low, x = masked(a, w), y = masked(b, v);
     switch (r.op) {
     case NOT: return word(w, ~x);
@@ -50,7 +51,7 @@ static struct answer apply(struct row r, unsigned a, unsigned b) {
 static void by_rows(void) {
     for (int i = 0; i < 17; i++) {
         uint32_t sum = 0;
-        for (unsigned a = 0; a < 1024; a++)
+        for (unsigned a = 0; a < 16384; a++)
             for (unsigned b = 0; b < 1024; b++)
                 sum += apply(ROWS[i], a, b).number;
         printf("%u\n", sum);
@@ -60,18 +61,42 @@ static void by_rows(void) {
 /* one pair after the other, each under all operations */
 static void by_pairs(void) {
     uint32_t sum = 0;
-    for (unsigned a = 0; a < 1024; a++)
+    for (unsigned a = 0; a < 16384; a++)
         for (unsigned b = 0; b < 1024; b++)
             for (int i = 0; i < 17; i++)
                 sum += apply(ROWS[i], a, b).number;
     printf("%u\n", sum);
 }
 
+#define EACH(OP) case OP: for (int k = 0; k < 64; k++) out[k] = apply((struct row){OP, r.width, r.low}, a[k], b[k]).number; break;
+
+/* 64 pairs at a time, the operation chosen once for all of them */
+static void block(struct row r, const uint16_t *a, const uint16_t *b, uint16_t *restrict out) {
+    switch (r.op) {
+        EACH(NOT) EACH(NEG) EACH(ADD) EACH(SUB) EACH(MUL) EACH(UDIV) EACH(UREM) EACH(AND) EACH(OR) EACH(XOR)
+        EACH(SHL) EACH(LSHR) EACH(ULT) EACH(ULE) EACH(SLT) EACH(SLE) EACH(CONCAT)
+    }
+}
+
+static void by_blocks(void) {
+    uint16_t left[64], right[64], out[64];
+    for (int i = 0; i < 17; i++) {
+        uint32_t sum = 0;
+        for (unsigned a = 0; a < 16384; a++)
+            for (unsigned base = 0; base < 16; base++) {
+                for (int k = 0; k < 64; k++) {
+                    left[k] = a;
+                    right[k] = base * 64 + k;
+                }
+                block(ROWS[i], left, right, out);
+                for (int k = 0; k < 64; k++)
+                    sum += out[k];
+            }
+        printf("%u\n", sum);
+    }
+}
+
 int main(void) {
-#ifdef BY_PAIRS
-    by_pairs();
-#else
-    by_rows();
-#endif
+    LOOP();
     return 0;
 }
