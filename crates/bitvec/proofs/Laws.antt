@@ -1,12 +1,12 @@
 -- The laws, at the width k that counts, and together for every width up to 16.
-use mathlib.Core.Bool.{Bool, true, false, cond}
-use mathlib.Core.Logic.{_⊎_, inl, inr}
-use mathlib.Core.Path.{_≡_, refl, sym, ap, subst, _∙_}
-use Prim.Native.Nat.{ℕ, zero, suc, _+_, _-_, _*_, _/_, _%_, _^_, _≤_, _<_, min, max}
+use mathlib.Core.Bool.{false}
+use mathlib.Core.Logic.{_⊎_}
+use mathlib.Core.Path.{_≡_, sym, ap, _∙_}
+use Prim.Native.Nat.{ℕ, zero, suc, _+_, _-_, _*_, _/_, _%_, _^_, _≤_, _<_, min}
 use native.Mathlib.Omega.{arith}
 use native.Mathlib.Nat.{add-mod, add-mod-mod, lt-trans, min-eq-left, mod-eq-of-lt, mod-lt, mod-mod, pow-suc}
-use lib.Dec.{leb, ltb, eqb}
-use lib.IntN.{ℤ, pos, negsuc}
+use lib.Dec.{leb, eqb}
+use lib.IntN.{ℤ}
 use lib.Signed.{ltZ, leZ}
 use lib.Pow.{pow-pos, pow-lt, high, low}
 use Rattle.std.proofs.shelf.Bits.{div-add-mod'}
@@ -14,7 +14,7 @@ use Rattle.std.proofs.shelf.Tests.{lt-leb, ne-eqb}
 use Rattle.std.proofs.shelf.Signed.{ints}
 use Rattle.std.proofs.shelf.Ways.{tells}
 use Rattle.bitvec.specs.declared.Sort.{Sort}
-use Rattle.bitvec.specs.Arithmetic.{bit, bitwise, signed, bvnot, bvneg, bvadd, bvsub, bvmul, bvudiv, bvurem, bvshl, bvlshr, bvslt, bvsle}
+use Rattle.bitvec.specs.Arithmetic.{signed, bvnot, bvneg, bvadd, bvsub, bvmul, bvudiv, bvurem, bvshl, bvlshr, bvslt}
 use Rattle.bitvec.specs.Laws.{Laws, Lawful}
 use Rattle.bitvec.specs.Table.{joined, beside, truth}
 use Rattle.bitvec.proofs.Bitwise.{and-each, or-each, xor-each}

@@ -1,6 +1,6 @@
 -- Numbers of w bits inside machine words of 16: a mask is a remainder, and a wrapped result keeps its lowest bits.
-use mathlib.Core.Path.{_≡_, refl, sym, ap, subst, _∙_}
-use Prim.Native.Nat.{ℕ, zero, suc, _+_, _-_, _*_, _/_, _%_, _^_, _≤_, _<_}
+use mathlib.Core.Path.{_≡_, sym, ap, subst, _∙_}
+use Prim.Native.Nat.{ℕ, suc, _+_, _-_, _*_, _%_, _^_, _≤_, _<_}
 use native.Mathlib.Omega.{arith}
 use native.Mathlib.Nat.{add-mul-mod-self-right, lt-of-lt-of-le, mod-lt, mul-le-mul-right, suc-mul}
 use lib.Bits.{bitAnd, bitOr, and-mask, or-shifted}

@@ -1,6 +1,6 @@
 // Bit-vector operations on widths up to 16. `apply` computes one of them, for any width and any operands.
 ghost use mathlib.Core.Path.{_≡_};
-ghost use Prim.Native.Nat.{ℕ, _+_, _-_, _%_, _^_, _<_, _≤_};
+ghost use Prim.Native.Nat.{_%_, _^_, _≤_};
 ghost use Rattle.bitvec.specs.Arithmetic.{signed};
 ghost use Rattle.bitvec.specs.Examples.{Worked};
 ghost use Rattle.bitvec.specs.Laws.{Lawful};
