@@ -1,0 +1,4 @@
+pub mod Arithmetic
+pub mod Examples
+pub mod Laws
+pub mod Table
