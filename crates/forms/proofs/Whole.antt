@@ -133,6 +133,3 @@ module _ (text : List ℕ) (ts : List Token) where
 
 pub reading : (text : List ℕ) (ts : List Token) → Reading text ts (formed text ts)
 reading text ts = by-outcome text ts (closedList ts) (deepest 0 ts) (fitted text ts) refl refl refl
-
-pub kept : (text : List ℕ) (ts : List Token) (r : Result Command FormFault) → r ≡ formed text ts → Reading text ts r
-kept text ts r e = subst (Reading text ts) (sym e) (reading text ts)

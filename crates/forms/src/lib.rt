@@ -239,14 +239,22 @@ fn in_form(text: &[u8], tokens: &[Token], items: &mut [Item; 16388]) -> Result<(
     }
 }
 
+// One closed list first, then the nesting, then the form.
+fn read_form(text: &[u8], tokens: &[Token], items: &mut [Item; 16388]) -> Result<Command, FormFault>
+    requires { ⌜ length (now tokens) ≤ 4096 ⌝ }
+    ensures { λ r. ⌜ r ≡ formed (now (text .entry)) (now (tokens .entry)) ⌝ }
+{
+    one_closed_list(text, tokens)?;
+    nested_within(tokens)?;
+    in_form(text, tokens, items)?;
+    Ok(command_of(text, tokens))
+}
+
 // The command that the tokens of the text are. The table of items is room to work in.
 pub fn read(text: &[u8], tokens: &[Token], items: &mut [Item; 16388]) -> Result<Command, FormFault>
     requires { ⌜ length (now tokens) ≤ 4096 ⌝ }
     ensures value { λ r. ⌜ r ≡ formed (now (text .entry)) (now (tokens .entry)) ⌝ }
     ensures law { λ r. ⌜ Reading (now (text .entry)) (now (tokens .entry)) r ⌝ }
 {
-    one_closed_list(text, tokens)?;
-    nested_within(tokens)?;
-    in_form(text, tokens, items)?;
-    Ok(command_of(text, tokens))
+    read_form(text, tokens, items)
 }
