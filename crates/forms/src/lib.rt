@@ -9,6 +9,7 @@ ghost use Rattle.grammar.specs.Marks.{marks};
 ghost use Rattle.grammar.specs.Machine.{step, run};
 ghost use Rattle.forms.specs.declared.FormFault.the-variants.{Unclosed, Nested, Outside};
 ghost use Rattle.forms.specs.Forms.{isOpening, openBehind, closing, closedList, deepest, numberOf, wordCommand, headed, noToken, signIn, commandOf, judged, shallow, fitted, formed};
+ghost use Rattle.forms.specs.Laws.{Reading};
 use grammar::items::Item;
 use grammar::items::Outcome;
 use grammar::machine::replacement;
@@ -238,8 +239,8 @@ fn in_form(text: &[u8], tokens: &[Token], items: &mut [Item; 16388]) -> Result<(
     }
 }
 
-// The command that the tokens of the text are. The table of items is room to work in.
-pub fn read(text: &[u8], tokens: &[Token], items: &mut [Item; 16388]) -> Result<Command, FormFault>
+// One closed list first, then the nesting, then the form.
+fn read_form(text: &[u8], tokens: &[Token], items: &mut [Item; 16388]) -> Result<Command, FormFault>
     requires { ⌜ length (now tokens) ≤ 4096 ⌝ }
     ensures { λ r. ⌜ r ≡ formed (now (text .entry)) (now (tokens .entry)) ⌝ }
 {
@@ -247,4 +248,13 @@ pub fn read(text: &[u8], tokens: &[Token], items: &mut [Item; 16388]) -> Result<
     nested_within(tokens)?;
     in_form(text, tokens, items)?;
     Ok(command_of(text, tokens))
+}
+
+// The command that the tokens of the text are. The table of items is room to work in.
+pub fn read(text: &[u8], tokens: &[Token], items: &mut [Item; 16388]) -> Result<Command, FormFault>
+    requires { ⌜ length (now tokens) ≤ 4096 ⌝ }
+    ensures value { λ r. ⌜ r ≡ formed (now (text .entry)) (now (tokens .entry)) ⌝ }
+    ensures law { λ r. ⌜ Reading (now (text .entry)) (now (tokens .entry)) r ⌝ }
+{
+    read_form(text, tokens, items)
 }

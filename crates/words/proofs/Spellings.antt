@@ -14,7 +14,7 @@ use Rattle.words.specs.declared.Word.{Word}
 use Rattle.words.specs.declared.Word.the-variants.{Push, Pop, Assert, CheckSat, DeclareConst, DeclareFun, DeclareSort, CheckSatAssuming, GetValue, GetInfo, SetLogic, Reset, Exit, Underscore, Bang, As, Let, Exists, Forall, Match, Par, Binary, Decimal, Hexadecimal, Numerals, Strings}
 use Rattle.words.specs.Words.{same, spelling, spelt, spells, allWords, first, wordOf, Told}
 
-same-equal : (xs ys : List ℕ) → same xs ys ≡ true → xs ≡ ys
+pub same-equal : (xs ys : List ℕ) → same xs ys ≡ true → xs ≡ ys
 unfolding same
 same-equal xs ys h = compares-decides same (search needs) xs ys .0 h
 
