@@ -1,6 +1,7 @@
 // A solver session: it is given command texts, one at a time, and answers each.
 ghost use mathlib.Core.Path.{_≡_};
 ghost use Prim.Native.Nat.{ℕ, _≤_};
+ghost use lib.Dec.{ltb};
 ghost use lib.ListN.{length};
 ghost use Rattle.std.specs.declared.result.Result.the-variants.{Ok};
 ghost use Rattle.page.specs.Pages.{Wrote};
@@ -209,14 +210,7 @@ impl Session {
         ensures view { λ r. ⌜ view r ≡ newState ⌝ }
         ensures laws { λ r. ⌜ Laws session ⌝ }
     {
-        Session {
-            logic: None,
-            depth: 0,
-            mode: Mode::Start,
-            ended: false,
-            tokens: no_tokens(),
-            items: no_items(),
-        }
+        empty()
     }
 
     // An `exit` was accepted.
@@ -231,7 +225,7 @@ impl Session {
         ensures step { λ r. ⌜ view (now (self .exit)) ≡ step (view (now (self .entry))) (given (now (text .entry)) (now (page .entry))) ⌝ }
         ensures answer { λ r. ⌜ Replied (answer (view (now (self .entry))) (given (now (text .entry)) (now (page .entry)))) (now (page .entry)) (now (page .exit)) r ⌝ }
     {
-        if page.len() < 8192 {
+        if is_small(page) {
             return Reply {
                 number: 1,
                 place: 0,
@@ -248,6 +242,26 @@ impl Session {
         ensures turn { λ r. ⌜ InTurn (view (now (self .entry))) (given (now (text .entry)) (now (page .entry))) (now (page .entry)) (now (page .exit)) r (view (now (self .exit))) ⌝ }
     {
         self.respond(text, page)
+    }
+}
+
+// The page has no room for a response.
+fn is_small(page: &[u8]) -> bool
+    ensures { λ r. ⌜ r ≡ ltb (length (now (page .entry))) 8192 ⌝ }
+{
+    page.len() < 8192
+}
+
+fn empty() -> Session
+    ensures { λ r. ⌜ view r ≡ newState ⌝ }
+{
+    Session {
+        logic: None,
+        depth: 0,
+        mode: Mode::Start,
+        ended: false,
+        tokens: no_tokens(),
+        items: no_items(),
     }
 }
 

@@ -8,7 +8,12 @@ use std::io::Read;
 use std::io::Write;
 
 // Number, place and count of the reply, and then the response.
-fn give(rt: &LibcRuntime, session: &mut Session, text: &[u8], page: &mut [u8]) -> Result<(), AnyError> {
+fn give(
+    rt: &LibcRuntime,
+    session: &mut Session,
+    text: &[u8],
+    page: &mut [u8],
+) -> Result<(), AnyError> {
     let reply = session.command(text, page);
     let number = reply.number;
     let place = reply.place;

@@ -7,8 +7,8 @@ use Rattle.session.specs.Views.{view, given}
 use Rattle.rules.proofs.Bridge.{small-step, acted-step, replied-by}
 use Rattle.session.proofs.store.Session.respond.Needs as need
 
-pub returns-then-page-lt8192 : need.returns-then-page-lt8192
-returns-then-page-lt8192 c =
+pub returns-then-is-small : need.returns-then-is-small
+returns-then-is-small c =
     let x = small-step (view (c .args .self .now)) (given (c .args .text .now) (c .args .page .now)) (search needs) in
     record { step = sym (x .0); answer = replied-by _ _ (sym (x .1)) (record { number = refl; place = refl; count = refl; front = refl; within = omega arith; behind = refl }) }
 
