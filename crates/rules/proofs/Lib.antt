@@ -5,3 +5,4 @@ pub mod Strikes
 pub mod PushZero
 pub mod Stretches
 pub mod Whole
+pub mod Wrongs

@@ -3,3 +3,4 @@ pub mod Records
 pub mod Steps
 pub mod Table
 pub mod Laws
+pub mod Wrong

@@ -1,6 +1,7 @@
 // The words of a session: logics, modes, faults and replies.
 ghost use mathlib.Core.Path.{_≡_};
 ghost use Rattle.rules.specs.declared.Fault.the-variants.{Token, Form};
+ghost use Rattle.rules.specs.Wrong.{Fails, surplus, refusing, forgetful};
 ghost use Rattle.rules.specs.Refusals.{numberOf, placeOf};
 use forms::FormFault;
 use tokens::TokenFault;
@@ -114,4 +115,13 @@ pub struct Reply {
     pub number: u8,
     pub place: usize,
     pub count: usize,
+}
+
+// The laws have teeth: they exclude a session that pops on a surplus pop, one that refuses everything, and one that forgets.
+pub fn wrong_sessions_fail() -> u8
+    ensures surplus { λ _. ⌜ Fails surplus ⌝ }
+    ensures refusing { λ _. ⌜ Fails refusing ⌝ }
+    ensures forgetful { λ _. ⌜ Fails forgetful ⌝ }
+{
+    0
 }
