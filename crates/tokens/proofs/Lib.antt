@@ -1,2 +1,5 @@
 pub mod Values
 pub mod Tables
+pub mod WordRuns
+pub mod Figures
+pub mod Laws

@@ -12,6 +12,7 @@ ghost use Rattle.chars.specs.Runs.{gap, run};
 ghost use Rattle.chars.specs.declared.Class.the-variants.{Hash, Colon, Digit, Symbol};
 ghost use Rattle.tokens.specs.Numbers.{digitOf, digitIn, numeralValue, numeral, low16, valueOf, literalValue, literal};
 ghost use Rattle.tokens.specs.Lexing.{startsSymbol, lexeme, next, tokens, Rows, bytesOf};
+ghost use Rattle.tokens.specs.Spelling.{LexLaw};
 use chars::Class;
 use chars::class_of;
 use chars::skip_gap;
@@ -284,6 +285,7 @@ pub fn lex(text: &[u8], table: &mut [Token; 4096]) -> Result<usize, TokenFault>
     requires { ⌜ length (now text) ≤ 4096 ⌝ }
     ensures rows { λ r. ⌜ Rows (tokens (now (text .entry))) (now (table .exit)) r ⌝ }
     ensures few { λ r. ⌜ made r (λ n. n ≤ 4096) ⌝ }
+    ensures law { λ r. ⌜ LexLaw (now (text .entry)) (tokens (now (text .entry))) ⌝ }
 {
     let mut at = 0;
     let mut count = 0;
