@@ -15,7 +15,7 @@ use Rattle.tokens.specs.declared.Kind.the-variants.{Numeral, Literal}
 use Rattle.tokens.specs.Numbers.{allDigits, decimalFrom, leadingZero, numeral, numberFrom, low16, valueOf, literalValue, literal}
 use Rattle.tokens.specs.Spelling.{DigitText, LiteralText, Written}
 
-none-some : {A : Type 0} {a : A} → None ≡ Some a → ⊥
+pub none-some : {A : Type 0} {a : A} → None ≡ Some a → ⊥
 none-some e = let z : _≡_ {A = ℕ} 0 1 = cc in omega arith
 
 some-same : {A : Type 0} {a b : A} → Some a ≡ Some b → a ≡ b

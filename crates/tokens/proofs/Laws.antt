@@ -27,19 +27,14 @@ use Rattle.tokens.specs.declared.TokenFault.the-variants.{Unexpected, Malforme
 use Rattle.tokens.specs.Numbers.{numeral, literal}
 use Rattle.tokens.specs.Lexing.{token, named, startsSymbol, keyed, counted, written, lexeme, some, tokenAt, before, onto, tokensFrom, tokens}
 use Rattle.tokens.specs.Spelling.{Words, Symbolic, Written, Runs, Stands, Spelt, WordAt, part, placeOf, Wrong, SpeltTo, Faulty, LexLaw}
-use Rattle.tokens.proofs.WordRuns.{part-front, word-at, class-tells, symbol-starts, no-symbol-starts}
+use Rattle.tokens.proofs.WordRuns.{part-front, part-cons, word-at, symbol-word, digit-word, class-tells, symbol-starts, no-symbol-starts}
+use Rattle.tokens.proofs.Only.{only}
 use Rattle.tokens.proofs.Figures.{numeral-written, literal-written, no-numeral, no-literal}
 
 -- what a reading at p ends in: a token that stands there, or what is wrong there
 abbrev Outcome : List ℕ → ℕ → Result Token TokenFault → Type 0
 Outcome text p (Ok t) = (t .from ≡ p) × Stands text t
 Outcome text p (Err f) = (placeOf f ≡ p) × Wrong text f
-
--- the first byte of the part from p on, and the rest
-part-cons : (text : List ℕ) (p end : ℕ) → p < length text → p < end → part text p end ≡ getD text p 0 ∷ part text (p + 1) end
-part-cons text p end h l =
-    let k : end - p ≡ suc (end - (p + 1)) = omega arith in
-    ap (λ z. take z (drop p text)) k ∙ ap (take (suc (end - (p + 1)))) (drop-more text p 0 h)
 
 part-long : (text : List ℕ) (p end : ℕ) → length (part text p end) ≤ end - p
 part-long text p end = simp length-take (omega arith)
@@ -52,16 +47,6 @@ one-byte text p b h e =
 -- a word with its first byte has one
 word-long : (text : List ℕ) (p : ℕ) → p < length text → isWord (getD text p 0) ≡ true → 0 < run (drop p text)
 word-long text p h w = let e = ap run (drop-more text p 0 h) ∙ ap (λ v. cond v (suc (run (drop (p + 1) text))) 0) w in omega arith
-
-symbol-word : (letter digit mark : Bool) → (letter || mark) ≡ true → (letter || digit || mark) ≡ true
-symbol-word true digit mark h = refl
-symbol-word false true mark h = refl
-symbol-word false false mark h = h
-
-digit-word : (letter digit mark : Bool) → digit ≡ true → (letter || digit || mark) ≡ true
-digit-word true digit mark h = refl
-digit-word false true mark h = refl
-digit-word false false mark h = absurd (both-ways false refl h)
 
 -- a word behind a symbol character is symbolic
 symbolic : (bs : List ℕ) (b : ℕ) (rest : List ℕ) → bs ≡ b ∷ rest → belongs Symbol b ≡ true → Words bs → Symbolic bs
@@ -208,4 +193,4 @@ law-from (suc most) text at h l =
 pub lex-law : (text : List ℕ) → LexLaw text (tokens text)
 lex-law text =
     let all : Law text 0 (tokens text) = law-from (length text) text 0 (omega arith) (omega arith) in
-    record { read = λ ts e. subst (Law text 0) e all; refused = λ f e. subst (Law text 0) e all }
+    record { read = λ ts e. subst (Law text 0) e all; only = only text; refused = λ f e. subst (Law text 0) e all }

@@ -2,4 +2,5 @@ pub mod Values
 pub mod Tables
 pub mod WordRuns
 pub mod Figures
+pub mod Only
 pub mod Laws

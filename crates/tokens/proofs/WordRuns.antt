@@ -1,12 +1,12 @@
 -- What `run` counts is a word, as far as it goes; and what the class of a byte tells.
 use mathlib.Core.Path.{_≡_, refl, sym, ap, subst, _∙_}
-use mathlib.Core.Bool.{Bool, true, false, cond}
+use mathlib.Core.Bool.{Bool, true, false, cond, _||_}
 use mathlib.Core.List.{List, [], _∷_}
 use mathlib.Core.Logic.{_⊎_, inl, inr}
 use Prim.Native.Nat.{ℕ, zero, suc, _+_, _-_, _<_, _≤_}
 use native.Mathlib.Omega.{arith}
 use lib.ListN.{length, getD, take, drop}
-use Rattle.std.proofs.shelf.Lists.{length-drop, getD-drop}
+use Rattle.std.proofs.shelf.Lists.{length-drop, getD-drop, drop-more}
 use Rattle.std.proofs.shelf.Tests.{both-ways}
 use Rattle.chars.specs.declared.Class.{Class}
 use Rattle.chars.specs.declared.Class.the-variants.{Blank, Open, Close, Semicolon, Hash, Colon, Digit, Symbol, Stray}
@@ -38,6 +38,12 @@ moved text p n h (inr w) = inr (rw getD-drop at w)
 pub part-front : (text : List ℕ) (p n : ℕ) → part text p (p + n) ≡ take n (drop p text)
 part-front text p n = let k : p + n - p ≡ n = omega arith in ap (λ z. take z (drop p text)) k
 
+-- the first byte of the part from p on, and the rest
+pub part-cons : (text : List ℕ) (p end : ℕ) → p < length text → p < end → part text p end ≡ getD text p 0 ∷ part text (p + 1) end
+part-cons text p end h l =
+    let k : end - p ≡ suc (end - (p + 1)) = omega arith in
+    ap (λ z. take z (drop p text)) k ∙ ap (take (suc (end - (p + 1)))) (drop-more text p 0 h)
+
 pub word-at : (text : List ℕ) (p : ℕ) → p ≤ length text → WordAt text p (p + run (drop p text))
 word-at text p h =
     let r = ran (drop p text) in
@@ -53,6 +59,17 @@ word-at text p h =
 pub run-over : (s : List ℕ) → Words s → run s ≡ length s
 run-over [] w = refl
 run-over (b ∷ s) (h, w) = ap (λ v. cond v (suc (run s)) 0) h ∙ ap suc (run-over s w)
+
+-- a symbol character, and a digit, belong to a word
+pub symbol-word : (letter digit mark : Bool) → (letter || mark) ≡ true → (letter || digit || mark) ≡ true
+symbol-word true digit mark h = refl
+symbol-word false true mark h = refl
+symbol-word false false mark h = h
+
+pub digit-word : (letter digit mark : Bool) → digit ≡ true → (letter || digit || mark) ≡ true
+digit-word true digit mark h = refl
+digit-word false true mark h = refl
+digit-word false false mark h = absurd (both-ways false refl h)
 
 -- the class of a byte, and what belongs to it
 pub class-tells : (b : ℕ) (c : Class) → classOf b ≡ c → belongs c b ≡ true

@@ -140,8 +140,9 @@ pub record Faulty (text : List ℕ) (at : ℕ) (ts : List Token) (f : TokenFault
   pub within : placeOf f < length text
   pub wrong : Wrong text f
 
--- The law of the reading: its tokens and the gaps between them spell the text;
+-- The law of the reading: its tokens, with the gaps between them, spell the text, and no others do;
 -- its fault stands where the tokens before it leave off, and tells what is wrong there.
 pub record LexLaw (text : List ℕ) (r : Result (List Token) TokenFault) : Type 0 where
   pub read : (ts : List Token) → r ≡ Ok ts → Spelt text 0 ts
+  pub only : (ts : List Token) → Spelt text 0 ts → r ≡ Ok ts
   pub refused : (f : TokenFault) → r ≡ Err f → (ts : List Token) × Faulty text 0 ts f
