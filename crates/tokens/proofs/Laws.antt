@@ -1,13 +1,13 @@
 -- The laws of the reading.
 use mathlib.Core.Path.{_≡_, refl, sym, ap, subst, _∙_}
-use mathlib.Core.Bool.{Bool, true, false, cond, _&&_, _||_}
-use mathlib.Core.List.{List, [], _∷_, _++_}
-use mathlib.Core.Logic.{_⊎_, inl, inr}
+use mathlib.Core.Bool.{Bool, true, false, cond, _&&_}
+use mathlib.Core.List.{List, [], _∷_}
+use mathlib.Core.Logic.{inl, inr}
 use Prim.Native.Nat.{ℕ, zero, suc, _+_, _-_, _<_, _≤_}
 use native.Mathlib.Omega.{arith}
 use lib.Dec.{leb, ltb, eqb}
 use lib.ListN.{length, getD, take, drop}
-use Rattle.std.proofs.shelf.Lists.{length-take, drop-more, drop-all, take-rest}
+use Rattle.std.proofs.shelf.Lists.{length-take, drop-all, take-rest}
 use Rattle.std.proofs.shelf.Tests.{both-ways, leb-true, leb-false, ltb-true, ltb-false, eqb-true, lt-ltb, le-ltb}
 use Rattle.std.specs.declared.option.Option.{Option}
 use Rattle.std.specs.declared.option.Option.the-variants.{Some, None}
@@ -15,20 +15,20 @@ use Rattle.std.specs.declared.result.Result.{Result}
 use Rattle.std.specs.declared.result.Result.the-variants.{Ok, Err}
 use Rattle.chars.specs.declared.Class.{Class}
 use Rattle.chars.specs.declared.Class.the-variants.{Blank, Open, Close, Semicolon, Hash, Colon, Digit, Symbol, Stray}
-use Rattle.chars.specs.Classes.{isBlank, isLetter, isDigit, isMark, isWord, classOf, belongs}
+use Rattle.chars.specs.Classes.{isBlank, isLetter, isDigit, isMark, classOf, belongs}
 use Rattle.chars.specs.Runs.{gap, run}
 use Rattle.chars.specs.Gaps.{Gap, none, LastGap, Skipped}
 use Rattle.chars.proofs.GapSpelt.{gap-skipped}
-use Rattle.tokens.specs.declared.Kind.{Kind}
-use Rattle.tokens.specs.declared.Kind.the-variants.{Opening, Closing, Name, Keyword, Numeral, Literal}
+use Rattle.tokens.specs.declared.Kind.the-variants.{Name, Keyword}
 use Rattle.tokens.specs.declared.Token.{Token}
 use Rattle.tokens.specs.declared.TokenFault.{TokenFault}
-use Rattle.tokens.specs.declared.TokenFault.the-variants.{Unexpected, Malformed, TooLong}
+use Rattle.tokens.specs.declared.TokenFault.the-variants.{Unexpected, TooLong}
 use Rattle.tokens.specs.Numbers.{numeral, literal}
-use Rattle.tokens.specs.Lexing.{token, named, startsSymbol, keyed, counted, written, lexeme, some, tokenAt, before, onto, tokensFrom, tokens}
-use Rattle.tokens.specs.Spelling.{Words, Symbolic, Written, Runs, Stands, Spelt, WordAt, part, placeOf, Wrong, SpeltTo, Faulty, LexLaw}
-use Rattle.tokens.proofs.WordRuns.{part-front, part-cons, word-at, symbol-word, digit-word, class-tells, symbol-starts, no-symbol-starts}
+use Rattle.tokens.specs.Lexing.{token, named, startsSymbol, counted, written, lexeme, some, tokenAt, before, onto, tokensFrom, tokens}
+use Rattle.tokens.specs.Spelling.{Words, Symbolic, Stands, Spelt, WordAt, part, placeOf, Wrong, Faulty, LexLaw}
+use Rattle.tokens.proofs.WordRuns.{part-front, part-cons, word-at, word-long, symbol-word, digit-word, class-tells, symbol-starts, no-symbol-starts}
 use Rattle.tokens.proofs.Only.{only}
+use Rattle.tokens.proofs.Faults.{fault-only}
 use Rattle.tokens.proofs.Figures.{numeral-written, literal-written, no-numeral, no-literal}
 
 -- what a reading at p ends in: a token that stands there, or what is wrong there
@@ -43,10 +43,6 @@ one-byte : (text : List ℕ) (p b : ℕ) → p < length text → getD text p 0 �
 one-byte text p b h e =
     let k : p + 1 - (p + 1) ≡ 0 = omega arith in
     part-cons text p (p + 1) h (omega arith) ∙ ap (λ z. z ∷ part text (p + 1) (p + 1)) e ∙ ap (λ z. b ∷ take z (drop (p + 1) text)) k
-
--- a word with its first byte has one
-word-long : (text : List ℕ) (p : ℕ) → p < length text → isWord (getD text p 0) ≡ true → 0 < run (drop p text)
-word-long text p h w = let e = ap run (drop-more text p 0 h) ∙ ap (λ v. cond v (suc (run (drop (p + 1) text))) 0) w in omega arith
 
 -- a word behind a symbol character is symbolic
 symbolic : (bs : List ℕ) (b : ℕ) (rest : List ℕ) → bs ≡ b ∷ rest → belongs Symbol b ≡ true → Words bs → Symbolic bs
@@ -193,4 +189,4 @@ law-from (suc most) text at h l =
 pub lex-law : (text : List ℕ) → LexLaw text (tokens text)
 lex-law text =
     let all : Law text 0 (tokens text) = law-from (length text) text 0 (omega arith) (omega arith) in
-    record { read = λ ts e. subst (Law text 0) e all; only = only text; refused = λ f e. subst (Law text 0) e all }
+    record { read = λ ts e. subst (Law text 0) e all; only = only text; refused = λ f e. subst (Law text 0) e all; fault-only = fault-only text }

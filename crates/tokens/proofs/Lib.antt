@@ -3,4 +3,5 @@ pub mod Tables
 pub mod WordRuns
 pub mod Figures
 pub mod Only
+pub mod Faults
 pub mod Laws

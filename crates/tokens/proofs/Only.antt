@@ -1,11 +1,11 @@
 -- Whatever tokens spell a text are the ones that are read.
 use mathlib.Core.Path.{_≡_, refl, sym, ap, subst, _∙_}
-use mathlib.Core.Bool.{Bool, true, false, cond, _&&_, _||_}
+use mathlib.Core.Bool.{Bool, true, false, cond, _&&_}
 use mathlib.Core.List.{List, [], _∷_, _++_}
-use mathlib.Core.Logic.{_⊎_, inl, inr}
+use mathlib.Core.Logic.{inl, inr}
 use Prim.Native.Nat.{ℕ, zero, suc, _+_, _-_, _*_, _<_, _≤_}
 use native.Mathlib.Omega.{arith}
-use lib.Dec.{leb, ltb, eqb}
+use lib.Dec.{ltb, eqb}
 use lib.ListN.{length, getD, take, drop}
 use Rattle.std.proofs.shelf.Lists.{length-drop, length-take-le, take-all, getD-drop, drop-drop, drop-more, drop-all, take-append-drop}
 use Rattle.std.proofs.shelf.Tests.{le-leb, lt-ltb, le-ltb, eq-eqb, and-parts}
@@ -15,7 +15,7 @@ use Rattle.std.specs.declared.option.Option.the-variants.{Some, None}
 use Rattle.std.specs.declared.result.Result.{Result}
 use Rattle.std.specs.declared.result.Result.the-variants.{Ok, Err}
 use Rattle.chars.specs.declared.Class.{Class}
-use Rattle.chars.specs.declared.Class.the-variants.{Blank, Open, Close, Semicolon, Hash, Colon, Digit, Symbol, Stray}
+use Rattle.chars.specs.declared.Class.the-variants.{Blank, Open, Close, Semicolon, Hash, Colon, Digit, Symbol}
 use Rattle.chars.specs.Classes.{within, isBlank, isLetter, isDigit, isMark, isWord, classOf, belongs}
 use Rattle.chars.specs.Runs.{gap, run}
 use Rattle.chars.specs.Gaps.{Gap, none as no-gap-at-all, LastGap}
@@ -28,7 +28,7 @@ use Rattle.tokens.specs.declared.TokenFault.the-variants.{Unexpected, TooLong}
 use Rattle.tokens.specs.Numbers.{allDigits, digitOf, digitIn, then, numberFrom, numeral, literal}
 use Rattle.tokens.specs.Lexing.{token, named, startsSymbol, counted, written, lexeme, some, tokenAt, next, before, tokensFrom, tokens}
 use Rattle.tokens.specs.Spelling.{Words, Symbolic, LiteralText, Written, Runs, Whole, Stands, Spelt, part}
-use Rattle.tokens.proofs.WordRuns.{part-cons, symbol-word, digit-word, class-only}
+use Rattle.tokens.proofs.WordRuns.{part-cons, digit-word, class-only}
 use Rattle.tokens.proofs.Figures.{none-some, numeral-taken, literal-taken}
 use Rattle.tokens.proofs.Tables.{none, more}
 
@@ -47,26 +47,26 @@ back text p end h l (inr e) =
     let k : p + (end - p) ≡ end = omega arith in
     inr (ap isWord (getD-drop p text (end - p) 0 ∙ ap (λ z. getD text z 0) k) ∙ e)
 
-run-at : (text : List ℕ) (p end : ℕ) → p ≤ end → end ≤ length text → Words (part text p end) → Runs text end → run (drop p text) ≡ end - p
+pub run-at : (text : List ℕ) (p end : ℕ) → p ≤ end → end ≤ length text → Words (part text p end) → Runs text end → run (drop p text) ≡ end - p
 run-at text p end h l w r = run-exact (drop p text) (end - p) (omega (arith, length-drop p text)) w (back text p end h l r)
 
--- a token that begins with a byte of the class c is read there as that one
-abbrev Lexed : List ℕ → ℕ → Token → Type 0
-Lexed text p t = (isBlank (getD text p 0) ≡ false) × (eqb (getD text p 0) 59 ≡ false) × (lexeme (classOf (getD text p 0)) text p ≡ Ok t)
+-- no gap begins at p, and what is read there is r
+abbrev pub Lexed : List ℕ → ℕ → Result Token TokenFault → Type 0
+Lexed text p r = (isBlank (getD text p 0) ≡ false) × (eqb (getD text p 0) 59 ≡ false) × (lexeme (classOf (getD text p 0)) text p ≡ r)
 
 apart : (b : ℕ) (c d : Class) → belongs c b ≡ true → (c ≡ d → ⊥) → (t : Bool) → belongs d b ≡ t → t ≡ false
 apart b c d h n false e = refl
 apart b c d h n true e = absurd (n (class-only b c h ∙ sym (class-only b d e)))
 
-lexed-by : (text : List ℕ) (p : ℕ) (t : Token) (c : Class) → belongs c (getD text p 0) ≡ true → (c ≡ Blank → ⊥) → (c ≡ Semicolon → ⊥) → lexeme c text p ≡ Ok t → Lexed text p t
-lexed-by text p t c h nb ns e = (
+pub lexed-by : (text : List ℕ) (p : ℕ) (r : Result Token TokenFault) (c : Class) → belongs c (getD text p 0) ≡ true → (c ≡ Blank → ⊥) → (c ≡ Semicolon → ⊥) → lexeme c text p ≡ r → Lexed text p r
+lexed-by text p r c h nb ns e = (
   apart (getD text p 0) c Blank h nb (isBlank (getD text p 0)) refl,
   apart (getD text p 0) c Semicolon h ns (eqb (getD text p 0) 59) refl,
   ap (λ d. lexeme d text p) (sym (class-only (getD text p 0) c h)) ∙ e,
 )
 
 -- the part's length, and its first byte
-long : (text : List ℕ) (p end : ℕ) → end ≤ length text → length (part text p end) ≡ end - p
+pub long : (text : List ℕ) (p end : ℕ) → end ≤ length text → length (part text p end) ≡ end - p
 long text p end h = length-take-le (end - p) (drop p text) (omega (arith, length-drop p text))
 
 first : (text : List ℕ) (p end b : ℕ) (rest : List ℕ) → end ≤ length text → part text p end ≡ b ∷ rest → (p < end) × (getD text p 0 ≡ b) × (part text (p + 1) end ≡ rest)
@@ -81,15 +81,15 @@ one-byte text p end b h e = let f = first text p end b [] h e in (f .1, omega (a
 named-short : (k : Kind) (n p end : ℕ) → n ≤ 64 → p + n ≡ end → named k n p ≡ Ok (token k p end)
 named-short k n p end h e = ap (λ v. cond v (Ok (token k p (p + n))) (Err (TooLong p))) (le-leb n 64 h) ∙ ap (λ z. Ok (token k p z)) e
 
-never : _≡_ {A = ℕ} 0 1 → ⊥
+pub never : _≡_ {A = ℕ} 0 1 → ⊥
 never e = omega arith
 
-name-lexed : (text : List ℕ) (p end : ℕ) → p < end → end ≤ length text → Symbolic (part text p end) → length (part text p end) ≤ 64 → Runs text end → Lexed text p (token Name p end)
+name-lexed : (text : List ℕ) (p end : ℕ) → p < end → end ≤ length text → Symbolic (part text p end) → length (part text p end) ≤ 64 → Runs text end → Lexed text p (Ok (token Name p end))
 name-lexed text p end l h s short r =
     let c = part-cons text p end (omega arith) l in
     let sy = subst Symbolic c s in
     let n : run (drop p text) ≡ end - p = run-at text p end (omega arith) h (subst Words (sym c) (sy .1)) r in
-    lexed-by text p (token Name p end) Symbol (sy .0) (λ e. never (cc)) (λ e. never (cc))
+    lexed-by text p (Ok (token Name p end)) Symbol (sy .0) (λ e. never (cc)) (λ e. never (cc))
     (named-short Name (run (drop p text)) p end (omega (arith, long text p end h)) (omega arith))
 
 symbolic-long : (bs : List ℕ) → Symbolic bs → 0 < length bs
@@ -97,7 +97,7 @@ symbolic-long [] s = absurd s
 symbolic-long (b ∷ bs) s = omega arith
 
 keyword-lexed : (text : List ℕ) (p end : ℕ) (rest : List ℕ) → end ≤ length text → part text p end ≡ 58 ∷ rest → Symbolic rest → length (part text p end) ≤ 64 → Runs text end
-    → Lexed text p (token Keyword p end)
+    → Lexed text p (Ok (token Keyword p end))
 keyword-lexed text p end rest h e s short r =
     let f = first text p end 58 rest h e in
     let s′ = subst Symbolic (sym (f .2)) s in
@@ -107,7 +107,7 @@ keyword-lexed text p end rest h e s short r =
     let n : run (drop (p + 1) text) ≡ end - (p + 1) = run-at text (p + 1) end (omega arith) h (subst Words (sym c) (sy .1)) r in
     let starts = sym (ap startsSymbol (class-only (getD text (p + 1) 0) Symbol (sy .0))) in
     let k : 1 + run (drop (p + 1) text) ≤ 64 = omega (arith, long text p end h) in
-    lexed-by text p (token Keyword p end) Colon (eq-eqb (getD text p 0) 58 (f .1)) (λ e. never (cc)) (λ e. never (cc))
+    lexed-by text p (Ok (token Keyword p end)) Colon (eq-eqb (getD text p 0) 58 (f .1)) (λ e. never (cc)) (λ e. never (cc))
     (ap (λ v. cond (v && startsSymbol (classOf (getD text (p + 1) 0))) (named Keyword (1 + run (drop (p + 1) text)) p) (Err (Unexpected p))) (lt-ltb (p + 1) (length text) (omega arith))
     ∙ ap (λ v. cond v (named Keyword (1 + run (drop (p + 1) text)) p) (Err (Unexpected p))) starts
     ∙ named-short Keyword (1 + run (drop (p + 1) text)) p end k (omega arith))
@@ -116,13 +116,13 @@ digits-words : (bs : List ℕ) → allDigits bs ≡ true → Words bs
 digits-words [] e = tt
 digits-words (b ∷ bs) e = let h = and-parts (isDigit b) (allDigits bs) e in (digit-word (isLetter b) (isDigit b) (isMark b) (h .0), digits-words bs (h .1))
 
-numeral-lexed : (text : List ℕ) (p end n : ℕ) → p < end → end ≤ length text → Written (Numeral n) (part text p end) → Runs text end → Lexed text p (token (Numeral n) p end)
+numeral-lexed : (text : List ℕ) (p end n : ℕ) → p < end → end ≤ length text → Written (Numeral n) (part text p end) → Runs text end → Lexed text p (Ok (token (Numeral n) p end))
 numeral-lexed text p end n l h w r =
     let c = part-cons text p end (omega arith) l in
     let d = and-parts (isDigit (getD text p 0)) (allDigits (part text (p + 1) end)) (ap allDigits (sym c) ∙ w .0 .1) in
     let m : run (drop p text) ≡ end - p = run-at text p end (omega arith) h (digits-words (part text p end) (w .0 .1)) r in
     let k : p + (end - p) ≡ end = omega arith in
-    lexed-by text p (token (Numeral n) p end) Digit (d .0) (λ e. never (cc)) (λ e. never (cc))
+    lexed-by text p (Ok (token (Numeral n) p end)) Digit (d .0) (λ e. never (cc)) (λ e. never (cc))
     (ap (λ z. counted (numeral (take z (drop p text))) z p) m ∙ ap (λ o. counted o (end - p) p) (numeral-taken (part text p end) n w) ∙ ap (λ z. Ok (token (Numeral n) p z)) k)
 
 hex-word : (b d : ℕ) → digitOf b ≡ Some d → isWord b ≡ true
@@ -145,7 +145,7 @@ literal-words : (w n : ℕ) (bs : List ℕ) → LiteralText w n bs → (rest : L
 literal-words w n bs (inl (ds, e, (h, d), k)) = (98 ∷ ds, e, (refl, number-words 2 0 n ds d))
 literal-words w n bs (inr (ds, e, (h, d), k)) = (120 ∷ ds, e, (refl, number-words 16 0 n ds d))
 
-literal-lexed : (text : List ℕ) (p end w v : ℕ) → end ≤ length text → Written (Literal w v) (part text p end) → Runs text end → Lexed text p (token (Literal w v) p end)
+literal-lexed : (text : List ℕ) (p end w v : ℕ) → end ≤ length text → Written (Literal w v) (part text p end) → Runs text end → Lexed text p (Ok (token (Literal w v) p end))
 literal-lexed text p end w v h t r =
     let ws = literal-words w (t .0) (part text p end) (t .1) in
     let f = first text p end 35 (ws .0) h (ws .1) in
@@ -153,16 +153,16 @@ literal-lexed text p end w v h t r =
     let m : run (drop (p + 1) text) ≡ end - (p + 1) = run-at text (p + 1) end (omega arith) h (subst Words (sym (f .2)) (ws .2)) r in
     let n : 1 + run (drop (p + 1) text) ≡ end - p = omega arith in
     let k : p + (end - p) ≡ end = omega arith in
-    lexed-by text p (token (Literal w v) p end) Hash (eq-eqb (getD text p 0) 35 (f .1)) (λ e. never (cc)) (λ e. never (cc))
+    lexed-by text p (Ok (token (Literal w v) p end)) Hash (eq-eqb (getD text p 0) 35 (f .1)) (λ e. never (cc)) (λ e. never (cc))
     (ap (λ z. written (literal (take z (drop p text))) z p) n ∙ ap (λ o. written o (end - p) p) (literal-taken (part text p end) w v t) ∙ ap (λ z. Ok (token (Literal w v) p z)) k)
 
-lexed : (text : List ℕ) (k : Kind) (p end : ℕ) → p < end → end ≤ length text → Written k (part text p end) → Whole k text end → Lexed text p (token k p end)
+lexed : (text : List ℕ) (k : Kind) (p end : ℕ) → p < end → end ≤ length text → Written k (part text p end) → Whole k text end → Lexed text p (Ok (token k p end))
 lexed text Opening p end l h w r =
     let b = one-byte text p end 40 h w in
-    lexed-by text p (token Opening p end) Open (eq-eqb (getD text p 0) 40 (b .0)) (λ e. never (cc)) (λ e. never (cc)) (ap (λ z. Ok (token Opening p z)) (b .1))
+    lexed-by text p (Ok (token Opening p end)) Open (eq-eqb (getD text p 0) 40 (b .0)) (λ e. never (cc)) (λ e. never (cc)) (ap (λ z. Ok (token Opening p z)) (b .1))
 lexed text Closing p end l h w r =
     let b = one-byte text p end 41 h w in
-    lexed-by text p (token Closing p end) Close (eq-eqb (getD text p 0) 41 (b .0)) (λ e. never (cc)) (λ e. never (cc)) (ap (λ z. Ok (token Closing p z)) (b .1))
+    lexed-by text p (Ok (token Closing p end)) Close (eq-eqb (getD text p 0) 41 (b .0)) (λ e. never (cc)) (λ e. never (cc)) (ap (λ z. Ok (token Closing p z)) (b .1))
 lexed text Name p end l h w r = name-lexed text p end l h (w .0) (w .1) r
 lexed text Keyword p end l h w r = keyword-lexed text p end (w .0) h (w .1) (w .2) (w .3) r
 lexed text (Numeral n) p end l h w r = numeral-lexed text p end n l h w r
@@ -181,13 +181,15 @@ gap-to text at p h l g nb ns =
     let stop = no-gap (getD text p 0) (drop (p + 1) text) nb ns in
     omega arith
 
-next-token : (text : List ℕ) (at : ℕ) (t : Token) → at ≤ t .from → Gap (take (t .from - at) (drop at text)) → Stands text t → next text at ≡ Ok (Some t)
+pub next-lexed : (text : List ℕ) (at p : ℕ) (r : Result Token TokenFault) → at ≤ p → p < length text → Gap (take (p - at) (drop at text)) → Lexed text p r → next text at ≡ some r
+next-lexed text at p r h l g (nb, ns, e) =
+    ap (tokenAt text) (gap-to text at p h l g nb ns)
+    ∙ ap (λ v. cond v (some (lexeme (classOf (getD text p 0)) text p)) (Ok None)) (lt-ltb p (length text) l)
+    ∙ ap some e
+
+pub next-token : (text : List ℕ) (at : ℕ) (t : Token) → at ≤ t .from → Gap (take (t .from - at) (drop at text)) → Stands text t → next text at ≡ Ok (Some t)
 next-token text at t h g s =
-    let l : t .from < length text = omega (arith, s .long, s .within) in
-    let x = lexed text (t .kind) (t .from) (t .end) (s .long) (s .within) (s .is) (s .whole) in
-    ap (tokenAt text) (gap-to text at (t .from) h l g (x .0) (x .1))
-    ∙ ap (λ v. cond v (some (lexeme (classOf (getD text (t .from) 0)) text (t .from))) (Ok None)) (lt-ltb (t .from) (length text) l)
-    ∙ ap some (x .2)
+    next-lexed text at (t .from) (Ok t) h (omega (arith, s .long, s .within)) g (lexed text (t .kind) (t .from) (t .end) (s .long) (s .within) (s .is) (s .whole))
 
 next-end : (text : List ℕ) (at : ℕ) → at ≤ length text → LastGap (drop at text) → next text at ≡ Ok None
 next-end text at h g =

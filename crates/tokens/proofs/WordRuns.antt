@@ -2,8 +2,8 @@
 use mathlib.Core.Path.{_≡_, refl, sym, ap, subst, _∙_}
 use mathlib.Core.Bool.{Bool, true, false, cond, _||_}
 use mathlib.Core.List.{List, [], _∷_}
-use mathlib.Core.Logic.{_⊎_, inl, inr}
-use Prim.Native.Nat.{ℕ, zero, suc, _+_, _-_, _<_, _≤_}
+use mathlib.Core.Logic.{inl, inr}
+use Prim.Native.Nat.{ℕ, suc, _+_, _-_, _<_, _≤_}
 use native.Mathlib.Omega.{arith}
 use lib.ListN.{length, getD, take, drop}
 use Rattle.std.proofs.shelf.Lists.{length-drop, getD-drop, drop-more}
@@ -55,10 +55,9 @@ word-at text p h =
       whole = moved text p (run (drop p text)) h (r .2);
     }
 
--- a word is counted whole, up to what is none
-pub run-over : (s : List ℕ) → Words s → run s ≡ length s
-run-over [] w = refl
-run-over (b ∷ s) (h, w) = ap (λ v. cond v (suc (run s)) 0) h ∙ ap suc (run-over s w)
+-- a word with its first byte has one
+pub word-long : (text : List ℕ) (p : ℕ) → p < length text → isWord (getD text p 0) ≡ true → 0 < run (drop p text)
+word-long text p h w = let e = ap run (drop-more text p 0 h) ∙ ap (λ v. cond v (suc (run (drop (p + 1) text))) 0) w in omega arith
 
 -- a symbol character, and a digit, belong to a word
 pub symbol-word : (letter digit mark : Bool) → (letter || mark) ≡ true → (letter || digit || mark) ≡ true

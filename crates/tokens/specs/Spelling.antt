@@ -1,11 +1,11 @@
 -- How tokens and gaps spell a text.
 use mathlib.Core.Path.{_≡_}
-use mathlib.Core.Bool.{Bool, true, false}
+use mathlib.Core.Bool.{true, false}
 use mathlib.Core.List.{List, [], _∷_}
 use mathlib.Core.Logic.{_⊎_}
 use Prim.Native.Nat.{ℕ, _+_, _-_, _*_, _<_, _≤_}
 use lib.ListN.{length, getD, take, drop}
-use Rattle.std.specs.declared.option.Option.the-variants.{Some, None}
+use Rattle.std.specs.declared.option.Option.the-variants.{Some}
 use Rattle.std.specs.declared.result.Result.{Result}
 use Rattle.std.specs.declared.result.Result.the-variants.{Ok, Err}
 use Rattle.chars.specs.declared.Class.the-variants.{Digit, Symbol, Stray}
@@ -90,6 +90,7 @@ abbrev pub SpeltTo : List ℕ → ℕ → List Token → ℕ → Type 0
 SpeltTo text at [] end = at ≡ end
 SpeltTo text at (t ∷ ts) end = (at ≤ t .from) × Gap (take (t .from - at) (drop at text)) × Stands text t × SpeltTo text (t .end) ts end
 
+-- The bytes from a place up to another.
 abbrev pub part : List ℕ → ℕ → ℕ → List ℕ
 part text from end = take (end - from) (drop from text)
 
@@ -141,8 +142,9 @@ pub record Faulty (text : List ℕ) (at : ℕ) (ts : List Token) (f : TokenFault
   pub wrong : Wrong text f
 
 -- The law of the reading: its tokens, with the gaps between them, spell the text, and no others do;
--- its fault stands where the tokens before it leave off, and tells what is wrong there.
+-- its fault stands where the tokens before it leave off, tells what is wrong there, and is the only one.
 pub record LexLaw (text : List ℕ) (r : Result (List Token) TokenFault) : Type 0 where
   pub read : (ts : List Token) → r ≡ Ok ts → Spelt text 0 ts
   pub only : (ts : List Token) → Spelt text 0 ts → r ≡ Ok ts
   pub refused : (f : TokenFault) → r ≡ Err f → (ts : List Token) × Faulty text 0 ts f
+  pub fault-only : (ts : List Token) (f : TokenFault) → Faulty text 0 ts f → r ≡ Err f
