@@ -5,7 +5,6 @@ use Prim.Native.Nat.{ℕ, zero, suc, _+_, _-_, _<_, _≤_}
 use native.Mathlib.Omega.{arith}
 use lib.ListN.{length, take, set, length-set}
 use Rattle.std.proofs.shelf.Lists.{take-more-set, length-take-le}
-use Rattle.std.specs.declared.option.Option.{Option}
 use Rattle.std.specs.declared.option.Option.the-variants.{Some, None}
 use Rattle.std.specs.declared.result.Result.{Result}
 use Rattle.std.specs.declared.result.Result.the-variants.{Ok, Err}
@@ -21,17 +20,17 @@ before-before : (xs ys : List Token) (r : Result (List Token) TokenFault) → be
 before-before xs ys (Ok ts) = ap Ok (sym (append-assoc xs ys ts))
 before-before xs ys (Err e) = refl
 
-none : (most : ℕ) (text : List ℕ) (at : ℕ) → next text at ≡ Ok None → tokensFrom most text at ≡ Ok []
+pub none : (most : ℕ) (text : List ℕ) (at : ℕ) → next text at ≡ Ok None → tokensFrom most text at ≡ Ok []
 unfolding tokensFrom
 none zero text at e = refl
 none (suc most) text at e = ap (λ r. onto r (λ t. tokensFrom most text (t .end))) e
 
-fault : (most : ℕ) (text : List ℕ) (at : ℕ) (f : TokenFault) → next text at ≡ Err f → 0 < most → tokensFrom most text at ≡ Err f
+pub fault : (most : ℕ) (text : List ℕ) (at : ℕ) (f : TokenFault) → next text at ≡ Err f → 0 < most → tokensFrom most text at ≡ Err f
 unfolding tokensFrom
 fault zero text at f e h = absurd (omega arith)
 fault (suc most) text at f e h = ap (λ r. onto r (λ t. tokensFrom most text (t .end))) e
 
-more : (most : ℕ) (text : List ℕ) (at : ℕ) (t : Token) → next text at ≡ Ok (Some t) → tokensFrom (suc most) text at ≡ before (t ∷ []) (tokensFrom most text (t .end))
+pub more : (most : ℕ) (text : List ℕ) (at : ℕ) (t : Token) → next text at ≡ Ok (Some t) → tokensFrom (suc most) text at ≡ before (t ∷ []) (tokensFrom most text (t .end))
 unfolding tokensFrom
 more most text at t e = ap (λ r. onto r (λ t. tokensFrom most text (t .end))) e
 

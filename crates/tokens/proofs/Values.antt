@@ -1,7 +1,7 @@
 -- Facts on the numbers that digits write.
 use mathlib.Core.Path.{_≡_, refl, sym, ap, _∙_}
 use mathlib.Core.List.{List, [], _∷_}
-use Prim.Native.Nat.{ℕ, suc, _+_, _-_, _*_, _/_, _%_, _≤_}
+use Prim.Native.Nat.{ℕ, _+_, _-_, _*_, _/_, _%_, _≤_}
 use native.Mathlib.Nat.{mul-add, mul-left-comm}
 use native.Mathlib.Omega.{arith}
 use Rattle.std.specs.Options.{mapped}

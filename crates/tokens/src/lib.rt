@@ -1,7 +1,7 @@
 // The tokens of a command text, read into a table of fixed size.
 ghost use mathlib.Core.Path.{_≡_};
 ghost use mathlib.Core.Bool.{Bool, true, false};
-ghost use Prim.Native.Nat.{ℕ, _+_, _*_, _<_, _≤_};
+ghost use Prim.Native.Nat.{ℕ, _+_, _-_, _*_, _<_, _≤_};
 ghost use lib.ListN.{length, getD, take, drop};
 ghost use Rattle.std.specs.Options.{mapped};
 ghost use Rattle.std.specs.Slices.{found};
@@ -11,7 +11,8 @@ ghost use Rattle.chars.specs.Classes.{classOf};
 ghost use Rattle.chars.specs.Runs.{gap, run};
 ghost use Rattle.chars.specs.declared.Class.the-variants.{Hash, Colon, Digit, Symbol};
 ghost use Rattle.tokens.specs.Numbers.{digitOf, digitIn, numeralValue, numeral, low16, valueOf, literalValue, literal};
-ghost use Rattle.tokens.specs.Lexing.{startsSymbol, lexeme, next, tokens, Rows, bytesOf};
+ghost use Rattle.tokens.specs.Lexing.{named, startsSymbol, lexeme, next, tokens, Rows, bytesOf};
+ghost use Rattle.tokens.specs.Spelling.{LexLaw};
 use chars::Class;
 use chars::class_of;
 use chars::skip_gap;
@@ -171,20 +172,25 @@ fn starts_symbol(byte: u8) -> bool
     }
 }
 
+// A symbol or keyword has at most 64 bytes.
+fn named(kind: Kind, from: usize, end: usize) -> Result<Token, TokenFault>
+    requires { ⌜ from ≤ end ⌝ }
+    ensures value { λ r. ⌜ r ≡ named kind (end - from) from ⌝ }
+    ensures end { λ r. ⌜ made r (λ t. t .end ≡ end) ⌝ }
+{
+    if end - from > 64 {
+        return Err(TokenFault::TooLong(from));
+    }
+    Ok(Token { kind, from, end })
+}
+
 fn name_at(text: &[u8], from: usize) -> Result<Token, TokenFault>
     requires { ⌜ from < length (now text) ⌝ }
     ensures value { λ r. ⌜ r ≡ lexeme Symbol (now (text .entry)) from ⌝ }
     ensures within { λ r. ⌜ made r (λ t. t .end ≤ length (now (text .entry))) ⌝ }
 {
     let end = skip_run(text, from);
-    if end - from > 64 {
-        return Err(TokenFault::TooLong(from));
-    }
-    Ok(Token {
-        kind: Kind::Name,
-        from,
-        end,
-    })
+    named(Kind::Name, from, end)
 }
 
 fn numeral_at(text: &[u8], from: usize) -> Result<Token, TokenFault>
@@ -229,14 +235,7 @@ fn keyword_at(text: &[u8], from: usize) -> Result<Token, TokenFault>
         return Err(TokenFault::Unexpected(from));
     }
     let end = skip_run(text, from + 1);
-    if end - from > 64 {
-        return Err(TokenFault::TooLong(from));
-    }
-    Ok(Token {
-        kind: Kind::Keyword,
-        from,
-        end,
-    })
+    named(Kind::Keyword, from, end)
 }
 
 // The token that begins at `from`.
@@ -284,6 +283,7 @@ pub fn lex(text: &[u8], table: &mut [Token; 4096]) -> Result<usize, TokenFault>
     requires { ⌜ length (now text) ≤ 4096 ⌝ }
     ensures rows { λ r. ⌜ Rows (tokens (now (text .entry))) (now (table .exit)) r ⌝ }
     ensures few { λ r. ⌜ made r (λ n. n ≤ 4096) ⌝ }
+    ensures law { λ r. ⌜ LexLaw (now (text .entry)) (tokens (now (text .entry))) ⌝ }
 {
     let mut at = 0;
     let mut count = 0;

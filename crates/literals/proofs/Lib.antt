@@ -1,0 +1,2 @@
+pub mod Digitwise
+pub mod ReadBack
