@@ -2,7 +2,7 @@
 use mathlib.Core.Path.{_≡_}
 use mathlib.Core.Bool.{cond}
 use mathlib.Core.List.{List, [], _∷_, _++_}
-use Prim.Native.Nat.{ℕ, _-_, _<_, _≤_}
+use Prim.Native.Nat.{ℕ, _+_, _-_, _<_, _≤_}
 use lib.Dec.{eqb, leb, ltb}
 use lib.ListN.{length, take, getD}
 use Rattle.std.specs.declared.result.Result.{Result}
@@ -53,3 +53,13 @@ pub record Sound {A : Type 0} (rows : List A) (count : ℕ) (levels : List ℕ) 
   pub deep : depth ≤ length levels
   pub below : (i : ℕ) → i < depth → getD levels i 0 ≤ count
   pub rising : (i j : ℕ) → i ≤ j → j < depth → getD levels i 0 ≤ getD levels j 0
+
+-- A number of rows or levels that grows by one if there is room.
+abbrev pub Grows : ℕ → ℕ → ℕ → Result (Unit {0}) NoRoom → Type 0
+Grows room n n′ (Ok u) = (n < room) × (n′ ≡ n + 1)
+Grows room n n′ (Err e) = (n ≡ room) × (n′ ≡ n)
+
+-- A number of levels that falls by n if there are so many.
+abbrev pub Falls : ℕ → ℕ → ℕ → Result (Unit {0}) TooMany → Type 0
+Falls n d d′ (Ok u) = (n ≤ d) × (d′ ≡ d - n)
+Falls n d d′ (Err e) = (d < n) × (d′ ≡ d)
