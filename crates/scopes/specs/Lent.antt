@@ -4,8 +4,11 @@ use mathlib.Core.List.{List}
 use Prim.Native.Nat.{ℕ}
 use lib.ListN.{length}
 use denote.Ref.{now, name}
+use Rattle.std.specs.declared.result.Result.{Result}
 use Rattle.scopes.specs.declared.ScopedStack.{ScopedStack}
-use Rattle.scopes.specs.Stacks.{Scoped, view, Sound}
+use Rattle.scopes.specs.declared.NoRoom.{NoRoom}
+use Rattle.scopes.specs.declared.TooMany.{TooMany}
+use Rattle.scopes.specs.Stacks.{Scoped, view, Sound, Grows, Falls}
 
 module _ {A : Type 0} where
   -- what the tables stand for
@@ -32,3 +35,15 @@ module _ {A : Type 0} where
     pub depth : name (t .depth) ≡ name (s .depth)
     pub long : room t ≡ room s
     pub deep : deepest t ≡ deepest s
+
+  -- the counts before and after `add`
+  abbrev pub AddCounts : ScopedStack A → ScopedStack A → Result (Unit {0}) NoRoom → Type 0
+  AddCounts s t r = Grows (room s) (now (s .count)) (now (t .count)) r × (now (t .depth) ≡ now (s .depth))
+
+  -- the counts before and after `open`
+  abbrev pub OpenCounts : ScopedStack A → ScopedStack A → Result (Unit {0}) NoRoom → Type 0
+  OpenCounts s t r = Grows (deepest s) (now (s .depth)) (now (t .depth)) r × (now (t .count) ≡ now (s .count))
+
+  -- the depth before and after `close`
+  abbrev pub CloseCounts : ScopedStack A → ℕ → ScopedStack A → Result (Unit {0}) TooMany → Type 0
+  CloseCounts s n t r = Falls n (now (s .depth)) (now (t .depth)) r

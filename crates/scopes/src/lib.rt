@@ -1,7 +1,7 @@
 // The scoped stack: rows in levels, kept in tables that the caller lends for one call.
 ghost use mathlib.Core.Path.{_≡_};
-ghost use Rattle.scopes.specs.Stacks.{added, opened, closed, Grows, Falls};
-ghost use Rattle.scopes.specs.Lent.{held, Good, room, deepest, Same};
+ghost use Rattle.scopes.specs.Stacks.{added, opened, closed};
+ghost use Rattle.scopes.specs.Lent.{held, Good, room, deepest, Same, AddCounts, OpenCounts, CloseCounts};
 ghost use Rattle.scopes.specs.Histories.{Restores};
 
 // Every row, or every level, is in use.
@@ -26,7 +26,7 @@ impl<'a, T: Copy> ScopedStack<'a, T> {
     pub fn add(&mut self, row: T) -> Result<(), NoRoom>
         requires { ⌜ Good (now self) ⌝ }
         ensures view { λ r. ⌜ (held (now (self .exit)), r) ≡ added (room (now (self .entry))) (held (now (self .entry))) row ⌝ }
-        ensures counts { λ r. ⌜ Grows (room (now (self .entry))) (now (now (self .entry) .count)) (now (now (self .exit) .count)) r × (now (now (self .exit) .depth) ≡ now (now (self .entry) .depth)) ⌝ }
+        ensures counts { λ r. ⌜ AddCounts (now (self .entry)) (now (self .exit)) r ⌝ }
         ensures sound { λ r. ⌜ Good (now (self .exit)) ⌝ }
         ensures same { λ r. ⌜ Same (now (self .entry)) (now (self .exit)) ⌝ }
     {
@@ -42,7 +42,7 @@ impl<'a, T: Copy> ScopedStack<'a, T> {
     pub fn open(&mut self) -> Result<(), NoRoom>
         requires { ⌜ Good (now self) ⌝ }
         ensures view { λ r. ⌜ (held (now (self .exit)), r) ≡ opened (deepest (now (self .entry))) (held (now (self .entry))) ⌝ }
-        ensures counts { λ r. ⌜ Grows (deepest (now (self .entry))) (now (now (self .entry) .depth)) (now (now (self .exit) .depth)) r × (now (now (self .exit) .count) ≡ now (now (self .entry) .count)) ⌝ }
+        ensures counts { λ r. ⌜ OpenCounts (now (self .entry)) (now (self .exit)) r ⌝ }
         ensures sound { λ r. ⌜ Good (now (self .exit)) ⌝ }
         ensures same { λ r. ⌜ Same (now (self .entry)) (now (self .exit)) ⌝ }
     {
@@ -58,7 +58,7 @@ impl<'a, T: Copy> ScopedStack<'a, T> {
     pub fn close(&mut self, n: usize) -> Result<(), TooMany>
         requires { ⌜ Good (now self) ⌝ }
         ensures view { λ r. ⌜ (held (now (self .exit)), r) ≡ closed (held (now (self .entry))) n ⌝ }
-        ensures counts { λ r. ⌜ Falls n (now (now (self .entry) .depth)) (now (now (self .exit) .depth)) r ⌝ }
+        ensures counts { λ r. ⌜ CloseCounts (now (self .entry)) n (now (self .exit)) r ⌝ }
         ensures law { λ r. ⌜ Restores (held (now (self .entry))) n (held (now (self .exit))) r ⌝ }
         ensures sound { λ r. ⌜ Good (now (self .exit)) ⌝ }
         ensures same { λ r. ⌜ Same (now (self .entry)) (now (self .exit)) ⌝ }
