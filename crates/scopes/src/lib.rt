@@ -13,15 +13,16 @@ pub struct NoRoom;
 pub struct TooMany;
 
 // The first `count` rows stand. The first `depth` levels are open: each says how many rows stood when it was opened.
+// With a lifetime for each field, one function can lend several tables of one row type in turn.
 #[derive(Drop)]
-pub struct ScopedStack<'a, T: Copy> {
+pub struct ScopedStack<'a, 'b, 'c, 'd, T: Copy> {
     pub rows: &'a mut [T],
-    pub count: &'a mut usize,
-    pub levels: &'a mut [usize],
-    pub depth: &'a mut usize,
+    pub count: &'b mut usize,
+    pub levels: &'c mut [usize],
+    pub depth: &'d mut usize,
 }
 
-impl<'a, T: Copy> ScopedStack<'a, T> {
+impl<'a, 'b, 'c, 'd, T: Copy> ScopedStack<'a, 'b, 'c, 'd, T> {
     // Adds a row to the newest level.
     pub fn add(&mut self, row: T) -> Result<(), NoRoom>
         requires { ⌜ Good (now self) ⌝ }
