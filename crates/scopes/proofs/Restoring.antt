@@ -1,19 +1,18 @@
 -- The law of closing, by induction over the acts.
 use mathlib.Core.Path.{_≡_, refl, sym, ap, subst, _∙_}
-use mathlib.Core.Bool.{Bool, true, false, cond}
 use mathlib.Core.Logic.{⊎-elim}
 use mathlib.Core.List.{List, [], _∷_, _++_}
-use Prim.Native.Nat.{ℕ, zero, suc, min, _+_, _-_, _<_, _≤_}
+use Prim.Native.Nat.{ℕ, _+_, _-_, _<_, _≤_}
 use native.Mathlib.Omega.{arith}
 use lib.Dec.{eqb, leb, ltb}
 use lib.ListN.{length, take, getD}
 use Rattle.std.specs.declared.result.Result.{Result}
-use Rattle.std.specs.declared.result.Result.the-variants.{Ok, Err}
+use Rattle.std.specs.declared.result.Result.the-variants.{Ok}
 use Rattle.std.proofs.shelf.Tests.{cases-eq, cond-both, eqb-false, le-leb, ne-eqb, cond-true, cond-false}
 use Rattle.std.proofs.shelf.Lists.{take-all, length-take, length-take-le, length-push, take-append-le, take-take, take-at, getD-append-left, getD-push, getD-take}
 use Rattle.scopes.specs.declared.NoRoom.{NoRoom}
 use Rattle.scopes.specs.declared.TooMany.{TooMany}
-use Rattle.scopes.specs.Stacks.{Scoped, depth, added, opened, closed, cut}
+use Rattle.scopes.specs.Stacks.{Scoped, depth, opened, closed, cut}
 use Rattle.scopes.specs.Histories.{Act, adds, opens, closes, acted, run, Above, Restores}
 
 -- In t stands all that stood in s, the level that was opened next, and only newer levels above it.

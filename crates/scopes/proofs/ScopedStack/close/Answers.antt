@@ -1,5 +1,4 @@
 use borrow.Author.Needs.{needs}
-use native.Mathlib.Omega.{arith}
 use Rattle.std.proofs.shelf.Lists.{take-take, length-take-le, getD-take}
 use Rattle.scopes.proofs.Steps.{close-sound}
 use Rattle.scopes.proofs.Restoring.{restores}
