@@ -1,4 +1,6 @@
 // Bit-vector operations on widths up to 16. `apply` computes one of them, for any width and any operands.
+#![tactic(auto)]
+
 ghost use Rattle.std.specs.Prelude.{◌≡◌, ◌%◌, ◌^◌, ◌≤◌};
 ghost use Rattle.bitvec.specs.Arithmetic.{signed};
 ghost use Rattle.bitvec.specs.Examples.{Worked};

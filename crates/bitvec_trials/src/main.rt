@@ -1,5 +1,7 @@
 // Prints what `bitvec::apply` answers: for all operands at widths 1 to 4, and for operands at the edges at 8, 15 and 16.
 // The file `stdout` beside this crate has what another solver answers, made by tools/bitvec-values.
+#![tactic(auto)]
+
 use bitvec::{Operation, Sort, apply};
 use std::io;
 

@@ -1,4 +1,6 @@
 // The characters of a script: the class of each byte, and the runs that blanks, comments and words make.
+#![tactic(auto)]
+
 ghost use Rattle.std.specs.Prelude.{◌≡◌, ℕ, ◌+◌, ◌≤◌, Bool, true, false, length, drop};
 ghost use Rattle.chars.specs.Classes.{classes, class_of, is_mark, is_blank, is_word, Exactly};
 ghost use Rattle.chars.specs.Runs.{gap, run};

@@ -1,4 +1,6 @@
 // The shell: it answers a script from standard input on standard output.
+#![tactic(auto)]
+
 use script::answer_script;
 use std::io::{Read, Write};
 

@@ -1,4 +1,6 @@
 // Binary literals, written into a page.
+#![tactic(auto)]
+
 ghost use Rattle.std.specs.Prelude.{◌≡◌, ◌+◌, ◌^◌, ◌<◌, ◌≤◌, [], ◌∷◌, length, Ok};
 ghost use Rattle.page.specs.Pages.{Wrote};
 ghost use Rattle.tokens.specs.declared.Kind.TheVariants.{Literal};

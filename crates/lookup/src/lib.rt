@@ -1,4 +1,6 @@
 // What names stand for in a session's tables.
+#![tactic(auto)]
+
 ghost use Rattle.std.specs.Prelude.{◌≡◌};
 ghost use Rattle.tables.specs.Views.{record_of, Tidy};
 ghost use Rattle.terms.specs.Scoping.{scope_of, number_in, function_names, head_of, is_bool_name, sort_named, is_kept, free_sort, free_function};

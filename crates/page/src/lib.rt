@@ -1,4 +1,6 @@
 // Writing into a page: bytes, numbers, and the line that reports an error. The caller sees to the room.
+#![tactic(auto)]
+
 ghost use Rattle.std.specs.Prelude.{◌≡◌, ℕ, ◌+◌, ◌≤◌, length, drop, decimal};
 ghost use Rattle.page.specs.Pages.{Wrote, complaint};
 

@@ -1,4 +1,6 @@
 // Cutting a script into pieces: lists with their closing parentheses, stray closing parentheses, and atoms.
+#![tactic(auto)]
+
 ghost use Rattle.std.specs.Prelude.{◌≡◌, ℕ, ◌+◌, ◌<◌, ◌≤◌, Bool, true, false, length, drop};
 ghost use Rattle.pieces.specs.Cuts.{ends_atom, list_length, atom_length, piece_length, piece, Within, Next};
 ghost use Rattle.pieces.specs.Laws.{OnlyCut};

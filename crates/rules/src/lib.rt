@@ -1,4 +1,6 @@
 // The words of a session: logics, modes, faults and replies.
+#![tactic(auto)]
+
 ghost use Rattle.std.specs.Prelude.{◌≡◌};
 ghost use Rattle.rules.specs.declared.Fault.TheVariants.{Token, Form};
 ghost use Rattle.rules.specs.Wrong.{Fails, surplus, refusing, forgetful};

@@ -1,4 +1,6 @@
 // The scoped stack: rows in levels, kept in tables that the caller lends for one call.
+#![tactic(auto)]
+
 ghost use Rattle.std.specs.Prelude.{◌≡◌};
 ghost use Rattle.scopes.specs.Stacks.{added, opened, closed};
 ghost use Rattle.scopes.specs.Lent.{held, Good, room, deepest, Same, AddCounts, OpenCounts, CloseCounts};

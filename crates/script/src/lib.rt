@@ -1,4 +1,6 @@
 // Answering a whole script: its pieces are given to a session one after the other.
+#![tactic(auto)]
+
 ghost use Rattle.std.specs.Prelude.{◌≡◌, ℕ, ◌≤◌, Bool, true, false, List, ◌++◌, length, IfOk, OnOk};
 ghost use Rattle.rules.specs.Table.{answer, step};
 ghost use Rattle.session.specs.Views.{view};

@@ -1,4 +1,6 @@
 // A solver session: it is given command texts, one at a time, and answers each.
+#![tactic(auto)]
+
 ghost use Rattle.std.specs.Prelude.{◌≡◌, ℕ, ◌≤◌, length, Ok, nat_lt};
 ghost use Rattle.page.specs.Pages.{Wrote};
 ghost use Rattle.tokens.specs.Lexing.{bytes_of};

@@ -1,4 +1,6 @@
 // The sorts of a declared function, read token by token.
+#![tactic(auto)]
+
 ghost use Rattle.std.specs.Prelude.{◌≡◌, ℕ, ◌+◌, ◌<◌, ◌≤◌, List, [], length, None, slice_index_or};
 ghost use Rattle.tokens.specs.Lexing.{bytes_of};
 ghost use Rattle.grammar.specs.Marks.{mark_of, marks};

@@ -1,4 +1,6 @@
 // What stands in a session: declared sorts and functions, terms and assertions, in tables of fixed size.
+#![tactic(auto)]
+
 ghost use Rattle.std.specs.Prelude.{◌≡◌};
 ghost use Rattle.tables.specs.Views.{stored_in, Tidy, record_of};
 

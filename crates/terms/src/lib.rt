@@ -1,4 +1,5 @@
 // What stands in a session: declared sorts and functions, terms and assertions, in tables of fixed size.
+#![tactic(auto)]
 
 // Why a term or a sort isn't taken, with the place.
 #[derive(Clone, Copy)]

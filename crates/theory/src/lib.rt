@@ -1,4 +1,6 @@
 // The theories: logics, sorts, the functions that they name, and which parts each function takes.
+#![tactic(auto)]
+
 pub mod names;
 pub mod ranks;
 

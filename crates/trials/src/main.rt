@@ -1,4 +1,6 @@
 // Hands each line of standard input to one session as a command text, and prints what comes back; then tries pages and scripts of limit sizes.
+#![tactic(auto)]
+
 use script::answer_script;
 use session::store::Session;
 use std::alloc::{AllocError, Global};

@@ -1,4 +1,6 @@
 // The reserved words of command texts.
+#![tactic(auto)]
+
 ghost use Rattle.std.specs.Prelude.{◌≡◌};
 ghost use Rattle.words.specs.Words.{same, spelt, spells, first, word_of, Told};
 

@@ -6,6 +6,6 @@ use Rattle.chars.proofs.class_of.Goals as goal
 pub returns : goal.returns
 unfolding class_of
 returns c = record {
-  value = c.sorted-out.ensures;
-  law = subst (Exactly c.args.byte) (sym c.sorted-out.ensures) (exactly c.args.byte);
+  value = c.sorted_out.ensures;
+  law = subst (Exactly c.args.byte) (sym c.sorted_out.ensures) (exactly c.args.byte);
 }

@@ -6,8 +6,8 @@ use Rattle.chars.proofs.skip_run.Goals as goal
 pub loop-end-preserved : goal.loop-end-preserved
 loop-end-preserved c = search (rules, at_drop_more run)
 
-pub returns-else-is-word : goal.returns-else-is-word
-returns-else-is-word c = search (rules, at_drop_more run)
+pub returns-else-is_word : goal.returns-else-is_word
+returns-else-is_word c = search (rules, at_drop_more run)
 
 pub returns-after-loop-end : goal.returns-after-loop-end
 returns-after-loop-end c = search (rules, at_drop_all run)

@@ -8,7 +8,7 @@ returns-then-top-eq16388 c = record { step = empty-step c.args.items.now c.args.
 
 pub returns-in-Some : goal.returns-in-Some
 returns-in-Some c = record {
-  step = pushed-step c.args.items.now _ c.in-Some.pushed.now c.args.top c.args.sign OpenList (omega arith) (omega (arith, c.in-Some.ensures.few)) c.copy-from-slice.ensures.after c.in-Some.ensures.value;
+  step = pushed-step c.args.items.now _ c.in-Some.pushed.now c.args.top c.args.sign OpenList (omega arith) (omega (arith, c.in-Some.ensures.few)) c.copy_from_slice.ensures.after c.in-Some.ensures.value;
   bound = (omega arith, omega (arith, c.in-Some.ensures.few));
 }
 

@@ -3,11 +3,11 @@ use Rattle.std.proofs.lemmas.List.{at_drop_more, at_drop_all}
 use Rattle.forms.specs.Forms.{closing, closed_list}
 use Rattle.forms.proofs.closed_list.Goals as goal
 
-pub returns-then-is-empty : goal.returns-then-is-empty
-returns-then-is-empty c = search (rules, at_drop_all closed_list c.args.tokens.now 0)
+pub returns-then-is_empty : goal.returns-then-is_empty
+returns-then-is_empty c = search (rules, at_drop_all closed_list c.args.tokens.now 0)
 
-pub returns-then-not-is-opening : goal.returns-then-not-is-opening
-returns-then-not-is-opening c = search (rules, at_drop_more closed_list c.args.tokens.now 0)
+pub returns-then-not-is_opening : goal.returns-then-not-is_opening
+returns-then-not-is_opening c = search (rules, at_drop_more closed_list c.args.tokens.now 0)
 
 pub loop-i-init : goal.loop-i-init
 loop-i-init c = search (rules, at_drop_more closed_list c.args.tokens.now 0)

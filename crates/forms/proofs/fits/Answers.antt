@@ -15,14 +15,14 @@ loop-token-init c = (
 )
 
 pub returns-in-None : goal.returns-in-None
-returns-in-None c = sym (wrong-run c.args.text.now c.args.tokens.now c.loop-token.token-index (drop c.loop-token.top c.loop-token.items) no_token c.sign-of.result (search rules) c.sign-of.ensures c.in-None.ensures.step) ∙ c.loop-token.invariant.3
+returns-in-None c = sym (wrong-run c.args.text.now c.args.tokens.now c.loop-token.token-index (drop c.loop-token.top c.loop-token.items) no_token c.sign_of.result (search rules) c.sign_of.ensures c.in-None.ensures.step) ∙ c.loop-token.invariant.3
 
 pub loop-token-preserved : goal.loop-token-preserved
 loop-token-preserved c = (
   search rules,
   search rules,
   omega (arith, c.in-Some.ensures.bound),
-  sym (more-run c.args.text.now c.args.tokens.now c.loop-token.token-index (drop c.loop-token.top c.loop-token.items) no_token c.sign-of.result _ (search rules) c.sign-of.ensures c.in-Some.ensures.step) ∙ c.loop-token.invariant.3,
+  sym (more-run c.args.text.now c.args.tokens.now c.loop-token.token-index (drop c.loop-token.top c.loop-token.items) no_token c.sign_of.result _ (search rules) c.sign_of.ensures c.in-Some.ensures.step) ∙ c.loop-token.invariant.3,
 )
 
 pub returns-then-top-eq16388 : goal.returns-then-top-eq16388

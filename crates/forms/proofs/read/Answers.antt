@@ -5,6 +5,6 @@ use Rattle.forms.proofs.read.Goals as goal
 
 pub returns : goal.returns
 returns c = record {
-  value = c.read-form.ensures;
-  law = subst (Reading c.args.text.now c.args.tokens.now) (sym c.read-form.ensures) (reading c.args.text.now c.args.tokens.now);
+  value = c.read_form.ensures;
+  law = subst (Reading c.args.text.now c.args.tokens.now) (sym c.read_form.ensures) (reading c.args.text.now c.args.tokens.now);
 }

@@ -11,7 +11,7 @@ returns-then-from-script c =
 
 pub returns : goal.returns
 returns c =
-    let e : Some (record { from = c.skip-gap-from.result; end = c.piece-end.result }) ≡ piece c.args.script.now c.args.at = search rules in
+    let e : Some (record { from = c.skip_gap-from.result; end = c.piece_end.result }) ≡ piece c.args.script.now c.args.at = search rules in
     record {
       result = search rules;
       within = subst (Within c.args.script.now c.args.at) (sym e) (piece-within c.args.script.now c.args.at c.requires);

@@ -9,5 +9,5 @@ returns-in-40 c = search (rules, at_drop_more piece_length)
 pub returns-in-41 : goal.returns-in-41
 returns-in-41 c = search (rules, at_drop_more piece_length)
 
-pub returns-in-default : goal.returns-in-default
-returns-in-default c = search (rules, at_drop_more piece_length, at_drop_more atom_length)
+pub returns-in_default : goal.returns-in_default
+returns-in_default c = search (rules, at_drop_more piece_length, at_drop_more atom_length)

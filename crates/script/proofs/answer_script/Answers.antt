@@ -18,5 +18,5 @@ loop-piece-preserved c = (
   search rules,
   search rules,
   search rules,
-  one_more _ _ _ _ _ _ _ _ (search rules) c.answer-piece.ensures.state (search rules) c.in-Some.ensures.next c.loop-piece.invariant.3,
+  one_more _ _ _ _ _ _ _ _ (search rules) c.answer_piece.ensures.state (search rules) c.in-Some.ensures.next c.loop-piece.invariant.3,
 )

@@ -2,13 +2,13 @@ use Rattle.std.proofs.Common.{rules}
 use Rattle.rules.specs.Records.{reading}
 use Rattle.session.proofs.read.Goals as goal
 
-pub returns-in-err-count : goal.returns-in-err-count
+pub returns-in_err-count : goal.returns-in_err-count
 unfolding reading
-returns-in-err-count c = search rules
+returns-in_err-count c = search rules
 
-pub returns-in-err-command : goal.returns-in-err-command
+pub returns-in_err-command : goal.returns-in_err-command
 unfolding reading
-returns-in-err-command c = search rules
+returns-in_err-command c = search rules
 
 pub returns : goal.returns
 unfolding reading

@@ -3,4 +3,4 @@ use Rattle.tokens.proofs.literal.Goals as goal
 
 pub returns : goal.returns
 unfolding literal
-returns c = c.literal-value.ensures
+returns c = c.literal_value.ensures

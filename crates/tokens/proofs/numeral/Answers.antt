@@ -3,4 +3,4 @@ use Rattle.tokens.proofs.numeral.Goals as goal
 
 pub returns : goal.returns
 unfolding numeral
-returns c = c.numeral-value.ensures
+returns c = c.numeral_value.ensures

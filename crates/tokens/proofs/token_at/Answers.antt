@@ -4,7 +4,7 @@ use Rattle.chars.specs.Runs.{run}
 use Rattle.tokens.proofs.token_at.Goals as goal
 
 pub returns-in-Digit : goal.returns-in-Digit
-returns-in-Digit c = let law = c.class-of.ensures.law in search (rules, at_drop_more run)
+returns-in-Digit c = let law = c.class_of.ensures.law in search (rules, at_drop_more run)
 
 pub returns-in-Symbol : goal.returns-in-Symbol
 returns-in-Symbol c = search (rules, at_drop_more run)

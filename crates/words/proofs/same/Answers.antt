@@ -6,4 +6,4 @@ use Rattle.words.proofs.same.Goals as goal
 
 pub returns : goal.returns
 unfolding same
-returns c = same_from_decides _ _ (slice_eq-Decides Decides-eqb _ _ _ c.eq.ensures) (compares_Decides same (search rules) _ _)
+returns c = same_from_decides _ _ (slice_eq-Decides Decides-eqb _ _ _ c.eq.ensures) (compares_Decides same (search rules) c.args.left.now c.args.right.now)

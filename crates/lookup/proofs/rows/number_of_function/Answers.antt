@@ -3,4 +3,4 @@ use Rattle.lookup.proofs.rows.number_of_function.Goals as goal
 
 pub returns : goal.returns
 unfolding number_in
-returns c = c.first-function.ensures
+returns c = c.first_function.ensures

@@ -3,4 +3,4 @@ use Rattle.lookup.proofs.rows.number_of_sort.Goals as goal
 
 pub returns : goal.returns
 unfolding number_in
-returns c = c.first-sort.ensures
+returns c = c.first_sort.ensures

@@ -6,8 +6,8 @@ use Rattle.theory.proofs.ranks.same_sorts.Goals as goal
 pub returns-then-a-b : goal.returns-then-a-b
 returns-then-a-b c = search (rules, unequal)
 
-pub returns-then-not-same-sort : goal.returns-then-not-same-sort
-returns-then-not-same-sort c = search (rules, drop_more)
+pub returns-then-not-same_sort : goal.returns-then-not-same_sort
+returns-then-not-same_sort c = search (rules, drop_more)
 
 pub loop-i-preserved : goal.loop-i-preserved
 loop-i-preserved c = search (rules, drop_more)

@@ -10,8 +10,8 @@ use Rattle.signatures.specs.Steps.{Listed, read}
 use Rattle.signatures.specs.Views.{listed_in}
 use Rattle.signatures.proofs.reader.Signature.follow.Goals as goal
 
-pub returns-in-err-step : goal.returns-in-err-step
-returns-in-err-step c =
+pub returns-in_err-step : goal.returns-in_err-step
+returns-in_err-step c =
     let F : List Token → Result Listed SortFault = λ ts. read (scope_of (record_of c.args.tables.now)) (listed_in c.loop-token.self) (marks c.args.text.now ts) in
     search (rules, at_drop_more F)
 

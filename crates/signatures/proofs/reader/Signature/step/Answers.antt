@@ -18,7 +18,7 @@ returns-in-Name c =
       value =
           ap (λ k. says σ l (lexeme_of k bs) t.from) c.in-Name.is
           ∙ by_name (λ x. says σ l x t.from) (λ b. named σ l l.bits b t.from) (λ w. refl) (λ b. refl) bs
-          ∙ ap (λ b. named σ l l.bits b t.from) (sym c.bytes-of.ensures)
+          ∙ ap (λ b. named σ l l.bits b t.from) (sym c.bytes_of.ensures)
           ∙ c.name.ensures.value;
       few = c.name.ensures.few;
     }
