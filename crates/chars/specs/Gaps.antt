@@ -1,5 +1,5 @@
 -- What stands between tokens: blanks and comments.
-use Rattle.std.specs.Prelude.{◌≡◌, ℕ, ◌-◌, ◌<◌, Bool, true, false, ◌⊎◌, List, [], ◌∷◌, ◌++◌, length, take, ◌==◌, slice_index, slice_range}
+use Rattle.std.specs.Prelude.{◌≡◌, ℕ, ◌<◌, true, false, ◌⊎◌, List, [], ◌∷◌, ◌++◌, length, take, ◌==◌, slice_index, slice_range}
 use Rattle.chars.specs.Classes.{is_blank}
 use Rattle.chars.specs.Runs.{is_line_end}
 

@@ -9,6 +9,7 @@ use Rattle.forms.specs.Syntax.{Name, SortName, Term, set-logic, declare_sort, de
 use Rattle.forms.specs.Trees.{tree_of}
 use Rattle.forms.specs.Forms.{formed}
 use Rattle.forms.specs.Laws.{Points}
+use Rattle.forms.proofs.Trees.{one_tree}
 use Rattle.forms.proofs.Whole.{reading}
 
 -- The trees that a command of the kind points at.
@@ -46,11 +47,15 @@ shaped text (other o n es e) c h = subst (Shaped (other o n es e)) (sym h) tt
 
 module _ (text : List ℕ) (ts : List Token) where
   read_shape : (c : Command) → formed text ts ≡ Ok c → Shaped (tree_of (marks text ts)) c
-  read_shape c e = shaped text (tree_of (marks text ts)) c ((reading text ts).accepted c e).1
+  read_shape c e =
+      let r = (reading text ts).accepted c e in
+      shaped text (tree_of (marks text ts)) c (subst (λ t. Points text t c) (one_tree r.0 (marks text ts) r.1) r.2)
 
   -- the tokens are those of the tree that theirs is
   read-marks : (c : Command) → formed text ts ≡ Ok c → (t : Tree) → tree_of (marks text ts) ≡ t → marks text ts ≡ spell t
-  read-marks c e t q = sym ((reading text ts).accepted c e).0 ∙ ap spell q
+  read-marks c e t q =
+      let r = (reading text ts).accepted c e in
+      sym r.1 ∙ ap spell (one_tree r.0 (marks text ts) r.1 ∙ q)
 
   pub assert-marks : formed text ts ≡ Ok Assert → (o w c : ℕ) × ((t : Term)
       × (tree_of (marks text ts) ≡ command o w (assert t) c)

@@ -1,5 +1,5 @@
 -- What is read of the tokens of a text: a command, or the first fault of its form.
-use Rattle.std.specs.Prelude.{ℕ, ◌+◌, ◌-◌, Bool, true, false, cond, ◌&&◌, List, [], ◌∷◌, map, length, Some, None, Ok, Err, Option, Result, ◌==◌, slice_index_or}
+use Rattle.std.specs.Prelude.{ℕ, ◌+◌, ◌-◌, Bool, true, false, cond, ◌&&◌, List, [], ◌∷◌, length, Some, None, Ok, Err, Option, Result, ◌==◌, slice_index_or}
 use Rattle.words.specs.declared.Word.{Word}
 use Rattle.words.specs.declared.Word.TheVariants as words
 use Rattle.tokens.specs.declared.Kind.{Kind}
@@ -8,11 +8,10 @@ use Rattle.tokens.specs.declared.Token.{Token}
 use Rattle.tokens.specs.Lexing.{token, bytes_of}
 use Rattle.grammar.specs.declared.signs.Sign.{Sign}
 use Rattle.grammar.specs.declared.signs.Sign.TheVariants.{Open, Close, Reserved, Symbol, BitVec, Not, Key, Number, Constant}
-use Rattle.grammar.specs.declared.items.Item.{Item}
 use Rattle.grammar.specs.declared.items.Item.TheVariants as items
 use Rattle.grammar.specs.declared.items.Outcome.{Outcome}
 use Rattle.grammar.specs.declared.items.Outcome.TheVariants.{Accepted, Wrong, Short}
-use Rattle.grammar.specs.Marks.{Mark, marks, sign, lexeme_of}
+use Rattle.grammar.specs.Marks.{marks, sign, lexeme_of}
 use Rattle.grammar.specs.Machine.{run}
 use Rattle.forms.specs.declared.Command.{Command}
 use Rattle.forms.specs.declared.Command.TheVariants.{SetLogic, DeclareSort, DeclareFun, DeclareConst, Assert, Push, Pop, CheckSat, CheckSatAssuming, GetValue, GetInfo, Reset, Exit, Other}

@@ -1,6 +1,6 @@
 -- What reading a form promises, in terms of trees and their spelling.
-use Rattle.std.specs.Prelude.{◌≡◌, ℕ, suc, ◌+◌, ◌-◌, ◌<◌, ◌⊎◌, List, [], ◌∷◌, ◌++◌, length, take, None, Ok, Err, Result, slice_index_or}
-use Rattle.tokens.specs.declared.Kind.TheVariants.{Opening, Closing}
+use Rattle.std.specs.Prelude.{◌≡◌, ℕ, suc, ◌<◌, ◌⊎◌, List, [], ◌∷◌, ◌++◌, length, take, Ok, Err, Result, slice_index_or}
+use Rattle.tokens.specs.declared.Kind.TheVariants.{Opening}
 use Rattle.tokens.specs.declared.Token.{Token}
 use Rattle.tokens.specs.Lexing.{bytes_of}
 use Rattle.grammar.specs.Marks.{Mark, mark, open_list, close-list, marks}
@@ -9,7 +9,7 @@ use Rattle.forms.specs.declared.Command.TheVariants.{SetLogic, DeclareSort, Decl
 use Rattle.forms.specs.declared.FormFault.{FormFault}
 use Rattle.forms.specs.declared.FormFault.TheVariants.{Unclosed, Nested, Outside}
 use Rattle.forms.specs.Syntax.{Name, Tree, command, other, Operands, set-logic, declare_sort, declare_fun, declare_const, assert, push, pop, check_sat, check_sat_assuming, get_value, get_info, reset, exit, Expressions, spell, spell_expressions}
-use Rattle.forms.specs.Forms.{no_token, open_behind, is_opening}
+use Rattle.forms.specs.Forms.{no_token, open_behind}
 
 -- The tokens are the spelling of a command.
 abbrev pub InForm : List Mark → Type 0

@@ -1,5 +1,5 @@
 -- What tokens say to the forms.
-use Rattle.std.specs.Prelude.{ℕ, Bool, true, false, cond, List, [], ◌∷◌, map, Some, None, codes, Option}
+use Rattle.std.specs.Prelude.{ℕ, cond, List, map, Some, None, codes, Option}
 use Rattle.words.specs.declared.Word.{Word}
 use Rattle.words.specs.Words.{same, word_of}
 use Rattle.tokens.specs.declared.Kind.{Kind}

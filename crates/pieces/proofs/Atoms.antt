@@ -1,10 +1,10 @@
 -- What a piece is, from its length, and back.
-use Rattle.std.proofs.Common.{◌≡◌, ℕ, zero, suc, ◌+◌, ◌-◌, ◌<◌, ◌≤◌, Bool, true, false, cond, ◌||◌, eqb, ◌⊎◌, List, [], ◌∷◌, ◌++◌, length, get_or, take, drop, sym, refl, ap, ◌∙◌, subst, inl, inr, arith, lit≤, eqb-true}
+use Rattle.std.proofs.Common.{◌≡◌, ℕ, zero, suc, ◌<◌, ◌≤◌, Bool, true, false, cond, eqb, List, [], ◌∷◌, ◌++◌, length, take, drop, sym, refl, ap, ◌∙◌, subst, inl, inr, arith, lit≤, eqb-true}
 use Rattle.std.proofs.lemmas.List.{take_all, drop_all, append-nil}
 use Rattle.std.proofs.lemmas.Bool.Decides.{nat_tests}
 use Rattle.chars.specs.Classes.{is_blank}
 use Rattle.pieces.specs.Cuts.{ends_atom, atom_length, list_length, piece_length}
-use Rattle.pieces.specs.Laws.{count, Unclosed, ClosedList, OpenList, Atom, Stops, IsPiece, list, open_list, close, atom}
+use Rattle.pieces.specs.Laws.{Unclosed, ClosedList, OpenList, Atom, Stops, IsPiece, list, open_list, close, atom}
 use Rattle.pieces.proofs.Parentheses.{Ahead, Closes, Stays, Ends, list_ends, closes-only, stays_only}
 
 -- atoms

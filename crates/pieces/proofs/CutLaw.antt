@@ -1,13 +1,13 @@
 -- A script is cut into its pieces, and in no other way.
-use Rattle.std.proofs.Common.{◌≡◌, ℕ, zero, suc, ◌+◌, ◌-◌, ◌<◌, ◌≤◌, true, false, ◌⊎◌, List, [], ◌∷◌, ◌++◌, length, get_or, take, drop, sym, refl, ap, ◌∙◌, subst, inl, inr, arith, length-append, length-drop}
+use Rattle.std.proofs.Common.{◌≡◌, ℕ, zero, suc, ◌+◌, ◌<◌, ◌≤◌, false, List, [], ◌∷◌, ◌++◌, length, get_or, take, drop, sym, refl, ap, ◌∙◌, subst, inl, inr, arith, length-append, length-drop}
 use Rattle.std.proofs.lemmas.List.{take-append-drop, take_at, drop_at, drop_all, drop_more, nil_from_length}
 use Rattle.chars.specs.Runs.{gap}
 use Rattle.chars.specs.Gaps.{Gap, none, LastGap, Passed}
 use Rattle.chars.proofs.GapSpelt.{gap_passed}
 use Rattle.chars.proofs.GapOnly.{gap_over, no_gap, last_gap_over}
 use Rattle.pieces.specs.Cuts.{piece_length, cut_off, cut_up, pieces}
-use Rattle.pieces.specs.Laws.{IsPiece, Cut, OnlyCut}
-use Rattle.pieces.proofs.Atoms.{Piecewise, piecewise, Measured, measured}
+use Rattle.pieces.specs.Laws.{Cut, OnlyCut}
+use Rattle.pieces.proofs.Atoms.{piecewise, Measured, measured}
 
 cut_on : (n : ℕ) (s : List ℕ) → length s ≤ suc n → Passed (gap false s) s → ((t : List ℕ) → length t ≤ n → Cut t (cut_up n t)) → Cut s (cut_up (suc n) s)
 cut_on n s h (inl (lt, g, nb, ns)) ih =

@@ -1,10 +1,10 @@
 -- The law of depths.
-use Rattle.std.proofs.Common.{◌≡◌, ℕ, zero, suc, ◌+◌, ◌-◌, ◌<◌, ◌≤◌, min, Bool, true, false, cond, eqb, ltb, leb, List, [], ◌∷◌, ◌++◌, map, length, get_or, take, set, Ok, Err, Result, sym, refl, ap, ◌∙◌, subst, ⊎_elim, arith}
-use Rattle.std.proofs.lemmas.Bool.{cases_lt, cond_both, leb-true, leb-false, le-leb, lt-leb, ltb-true, eqb-true, eqb-false, cond-true, cond-false}
+use Rattle.std.proofs.Common.{◌≡◌, ℕ, zero, suc, ◌+◌, ◌-◌, ◌<◌, ◌≤◌, Bool, true, false, cond, eqb, ltb, leb, List, [], ◌∷◌, ◌++◌, map, length, get_or, take, set, Result, sym, refl, ap, ◌∙◌, subst, ⊎_elim, arith}
+use Rattle.std.proofs.lemmas.Bool.{cases_lt, cond_both, leb-true, leb-false, le-leb, lt-leb, eqb-true, eqb-false, cond-true, cond-false}
 use Rattle.std.proofs.lemmas.List.{length-take-le, get_or-take, take_all, take-take, take_more_set}
 use Rattle.scopes.specs.declared.NoRoom.{NoRoom}
 use Rattle.scopes.specs.declared.TooMany.{TooMany}
-use Rattle.scopes.specs.Stacks.{Scoped, depth, view, added, opened, closed, cut, Sound}
+use Rattle.scopes.specs.Stacks.{Scoped, depth, view, added, opened, closed, Sound}
 use Rattle.scopes.specs.Depths.{Deep, depth_at, deep_from, deep, standing, map_deep, Leveled, AddDepths, CloseDepths}
 
 -- every level began at or before the index, so the depth is the number of levels

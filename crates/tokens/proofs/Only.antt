@@ -5,7 +5,7 @@ use Rattle.std.proofs.lemmas.Bool.{le-leb, lt-ltb, le-ltb, eq-eqb, and_parts}
 use Rattle.std.proofs.lemmas.Bool.Decides.{nat_tests}
 use Rattle.chars.specs.declared.Class.{Class}
 use Rattle.chars.specs.declared.Class.TheVariants.{Blank, Open, Close, Semicolon, Hash, Colon, Digit, Symbol}
-use Rattle.chars.specs.Classes.{within, is_blank, is_letter, is_digit, is_mark, is_word, class_of, belongs}
+use Rattle.chars.specs.Classes.{is_blank, is_letter, is_digit, is_mark, is_word, class_of, belongs}
 use Rattle.chars.specs.Runs.{gap, run}
 use Rattle.chars.specs.Gaps.{Gap, none as no-gap-at-all, LastGap}
 use Rattle.chars.proofs.GapOnly.{gap_over, no_gap, last_gap_over}

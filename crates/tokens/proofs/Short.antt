@@ -1,5 +1,5 @@
 -- A symbol has at most 64 bytes.
-use Rattle.std.proofs.Common.{◌≡◌, ℕ, zero, suc, ◌+◌, ◌-◌, ◌≤◌, Bool, true, false, cond, ◌&&◌, ltb, leb, List, [], ◌∷◌, ◌++◌, length, get_or, take, drop, Some, None, Ok, Err, Option, Result, sym, refl, ap, ◌∙◌, subst, arith}
+use Rattle.std.proofs.Common.{◌≡◌, ℕ, zero, suc, ◌+◌, ◌-◌, ◌≤◌, Bool, true, false, cond, ◌&&◌, ltb, leb, List, [], ◌∷◌, length, get_or, take, drop, Some, None, Ok, Err, Option, Result, refl, subst, arith}
 use Rattle.std.proofs.lemmas.List.{length-take}
 use Rattle.std.proofs.lemmas.Bool.{leb-true}
 use Rattle.chars.specs.declared.Class.{Class}
@@ -7,12 +7,12 @@ use Rattle.chars.specs.declared.Class.TheVariants.{Blank, Open, Close, Semicolon
 use Rattle.chars.specs.Classes.{class_of}
 use Rattle.chars.specs.Runs.{gap, run}
 use Rattle.tokens.specs.declared.Kind.{Kind}
-use Rattle.tokens.specs.declared.Kind.TheVariants.{Opening, Closing, Name, Keyword, Numeral, Literal}
+use Rattle.tokens.specs.declared.Kind.TheVariants.{Name, Keyword}
 use Rattle.tokens.specs.declared.Token.{Token}
 use Rattle.tokens.specs.declared.TokenFault.{TokenFault}
-use Rattle.tokens.specs.declared.TokenFault.TheVariants.{Unexpected, Malformed, TooLong}
+use Rattle.tokens.specs.declared.TokenFault.TheVariants.{Unexpected, TooLong}
 use Rattle.tokens.specs.Numbers.{numeral, literal}
-use Rattle.tokens.specs.Lexing.{token, named, starts_symbol, keyed, counted, written, lexeme, some, token_at, next, before, onto, tokens_from, tokens, bytes_of}
+use Rattle.tokens.specs.Lexing.{token, named, starts_symbol, counted, written, lexeme, some, next, before, onto, tokens_from, tokens, bytes_of}
 
 module _ (text : List ℕ) where
   abbrev Short : Token → Type 0

@@ -1,9 +1,9 @@
 -- A word is told by its spelling.
-use Rattle.std.proofs.Common.{◌≡◌, ℕ, Bool, true, false, cond, ◌↔◌, List, [], ◌∷◌, Some, None, codes, Option, sym, refl, ap, ◌∙◌, subst, arith, rules}
+use Rattle.std.proofs.Common.{◌≡◌, ℕ, Bool, true, false, cond, List, [], ◌∷◌, Some, None, Option, sym, refl, subst, arith, rules}
 use Rattle.std.proofs.lemmas.Slice.Eq.{compares_Decides}
 use Rattle.words.specs.declared.Word.{Word}
 use Rattle.words.specs.declared.Word.TheVariants.{Push, Pop, Assert, CheckSat, DeclareConst, DeclareFun, DeclareSort, CheckSatAssuming, GetValue, GetInfo, SetLogic, Reset, Exit, Underscore, Bang, As, Let, Exists, Forall, Match, Par, Binary, Decimal, Hexadecimal, Numerals, Strings}
-use Rattle.words.specs.Words.{same, spelling, spelt, spells, all_words, first, word_of, Told}
+use Rattle.words.specs.Words.{same, spelling, spells, all_words, first, word_of, Told}
 
 pub same_equal : (xs ys : List ℕ) → same xs ys ≡ true → xs ≡ ys
 unfolding same

@@ -1,4 +1,4 @@
-use Rattle.std.proofs.Common.{arith, rules}
+use Rattle.std.proofs.Common.{arith}
 use Rattle.grammar.specs.declared.items.Item.TheVariants.{OpenList}
 use Rattle.forms.proofs.Stacks.{empty-step, no_step, pushed-step}
 use Rattle.forms.proofs.advance.Goals as goal
