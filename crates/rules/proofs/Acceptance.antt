@@ -1,9 +1,9 @@
 -- What it means that no row of the table applies, and that one does.
-use Rattle.std.proofs.Common.{◌≡◌, ℕ, Bool, true, false, cond, ◌&&◌, ◌||◌, eqb, List, [], ◌∷◌, ◌++◌, Some, None, Option, sym, refl, ap, ◌∙◌, subst, arith}
+use Rattle.std.proofs.Common.{◌≡◌, ℕ, cond, ◌&&◌, ◌||◌, List, [], ◌∷◌, Some, None, Option, refl, ap, ◌∙◌, arith}
 use Rattle.std.proofs.lemmas.Bool.{ne_eqb, eq-eqb}
-use Rattle.rules.specs.Records.{Record, Request, reading, asked, obeyed}
+use Rattle.rules.specs.Records.{Request, obeyed}
 use Rattle.rules.specs.Steps.{State, Given}
-use Rattle.rules.specs.Table.{Row, small_page, long-text, after-exit, unexpected_byte, broken_number, long-name, no_closed_list, nested_too_deep, outside_the_form, wrong-mode, unknown_logic, wrong-depth, numbered, applies, table, or_next, first, refusal, turned, is_exit, step, answer}
+use Rattle.rules.specs.Table.{Row, small_page, long-text, after-exit, unexpected_byte, broken_number, long-name, no_closed_list, nested_too_deep, outside_the_form, wrong-mode, unknown_logic, wrong-depth, numbered, applies, table, or_next, first, refusal, turned, is_exit, step}
 use Rattle.rules.specs.Laws.{request}
 use Rattle.rules.proofs.Bridge.{learn-refused}
 

@@ -1,5 +1,5 @@
 -- What the session does test by test is what the refusal table says.
-use Rattle.std.proofs.Common.{◌≡◌, ℕ, ◌+◌, ◌-◌, Bool, true, false, cond, not, ◌&&◌, ◌||◌, eqb, ltb, List, [], ◌∷◌, ◌++◌, length, Some, None, Ok, Err, Option, Result, sym, refl, ap, ◌∙◌, subst, arith}
+use Rattle.std.proofs.Common.{◌≡◌, ℕ, ◌+◌, Bool, true, false, cond, not, ◌&&◌, ◌||◌, eqb, ltb, List, [], length, Some, None, Ok, Err, Option, Result, sym, refl, ap, ◌∙◌, subst}
 use Rattle.tokens.specs.declared.TokenFault.{TokenFault}
 use Rattle.tokens.specs.declared.Token.{Token}
 use Rattle.tokens.specs.Lexing.{tokens}
@@ -8,15 +8,13 @@ use Rattle.forms.specs.declared.FormFault.{FormFault}
 use Rattle.forms.specs.Forms.{formed}
 use Rattle.forms.specs.declared.FormFault.TheVariants.{Unclosed, Nested, Outside}
 use Rattle.forms.specs.declared.Command.{Command}
-use Rattle.page.specs.Pages.{complaint}
 use Rattle.rules.specs.declared.Logic.{Logic}
 use Rattle.rules.specs.declared.Mode.{Mode}
 use Rattle.rules.specs.declared.Fault.{Fault}
 use Rattle.rules.specs.declared.Fault.TheVariants as faults
 use Rattle.rules.specs.declared.Said.{Said}
 use Rattle.rules.specs.declared.Reply.{Reply}
-use Rattle.rules.specs.Refusals.{number_of, place_of}
-use Rattle.rules.specs.Records.{Record, new_record, Request, set-logic, push, pop, reason, reset, exit, unsupported, request_of, through, reading, asked, obeyed, feed}
+use Rattle.rules.specs.Records.{Record, Request, set-logic, push, pop, reason, reset, exit, unsupported, request_of, through, reading, asked, obeyed}
 use Rattle.rules.specs.Steps.{State, new_state, is_start, refused, changed, executed, acted_on, acted, Given, Answer, printed, spoken, Replied}
 use Rattle.rules.specs.Table.{misplaced, at_start, at_byte, at_number, at_name, at_list, at_nesting, at_form, at_logic, at_depth, or_next, refusal, word, complained, response, answer, turned, is_exit, learn, step}
 

@@ -1,8 +1,8 @@
 -- After a stretch the state is the one before it, in mode assert.
-use Rattle.std.proofs.Common.{◌≡◌, ℕ, suc, ◌+◌, ◌-◌, ◌<◌, ◌≤◌, Bool, true, false, not, ◌||◌, ltb, List, [], ◌∷◌, ◌++◌, Some, None, Ok, Option, sym, refl, ap, ◌∙◌, subst, ⊎_elim, true≢false, arith}
+use Rattle.std.proofs.Common.{◌≡◌, ℕ, suc, ◌+◌, ◌-◌, ◌<◌, Bool, true, false, not, ◌||◌, ltb, List, [], ◌∷◌, Some, None, sym, refl, ap, ◌∙◌, subst, ⊎_elim, true≢false, arith}
 use Rattle.std.proofs.lemmas.Bool.{cases_eq, ltb-false, le-ltb}
 use Rattle.rules.specs.declared.Mode.TheVariants.{Assert}
-use Rattle.rules.specs.Records.{Record, Request, set-logic, push, pop, reason, reset, exit, unsupported, reading, asked}
+use Rattle.rules.specs.Records.{Request, set-logic, push, pop, reason, reset, exit, unsupported, asked}
 use Rattle.rules.specs.Steps.{State, is_start, Given}
 use Rattle.rules.specs.Table.{misplaced, at_start, at_depth, at_logic, at_byte, at_number, at_name, at_list, at_nesting, at_form, refusal, step, run}
 use Rattle.rules.specs.Laws.{request, push_zero}

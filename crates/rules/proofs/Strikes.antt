@@ -1,6 +1,6 @@
 -- Striking refused commands changes no other answer.
-use Rattle.std.proofs.Common.{◌≡◌, Bool, true, false, List, [], ◌∷◌, ◌++◌, sym, refl, ap, ◌∙◌, subst}
-use Rattle.rules.specs.Steps.{State, new_state, Given, Answer}
+use Rattle.std.proofs.Common.{◌≡◌, Bool, true, false, List, [], ◌∷◌, sym, refl, ap, ◌∙◌, subst}
+use Rattle.rules.specs.Steps.{State, new_state, Given}
 use Rattle.rules.specs.Table.{answer, step, session}
 use Rattle.rules.specs.Laws.{answers, left, OnlyRefused}
 use Rattle.rules.proofs.Walks.{replies, answers_replies}

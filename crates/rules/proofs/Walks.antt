@@ -1,6 +1,5 @@
 -- From lists of commands to states: what the laws say of earlier commands is what the state says.
-use Rattle.std.proofs.Common.{◌≡◌, List, [], ◌∷◌, ◌++◌, sym, refl, ap, ◌∙◌, subst}
-use Rattle.rules.specs.Records.{Record, new_record}
+use Rattle.std.proofs.Common.{◌≡◌, List, [], ◌∷◌, ◌++◌, refl, ap, ◌∙◌, subst}
 use Rattle.rules.specs.Steps.{State, new_state, Given, Answer}
 use Rattle.rules.specs.Table.{answer, learn, step, run, session}
 use Rattle.rules.specs.Laws.{answers_after, answers, fed, record_after, learnt, situation, Throughout}

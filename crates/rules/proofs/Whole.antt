@@ -1,9 +1,9 @@
 -- The laws together.
-use Rattle.std.proofs.Common.{◌≡◌, ℕ, ◌<◌, List, [], ◌∷◌, ◌++◌, sym, refl, ap, ◌∙◌, subst, subst₂}
+use Rattle.std.proofs.Common.{◌≡◌, ℕ, ◌<◌, List, [], ◌∷◌, ◌++◌, sym, ap, ◌∙◌, subst, subst₂}
 use Rattle.rules.specs.declared.Reply.{Reply}
-use Rattle.rules.specs.Steps.{State, new_state, Given, Answer, Replied}
+use Rattle.rules.specs.Steps.{State, new_state, Given, Replied}
 use Rattle.rules.specs.Table.{answer, step, run, session, refusal}
-use Rattle.rules.specs.Laws.{Laws, InTurn, Stretch, StaysAbove, answers_after, record_after, situation, push_zero}
+use Rattle.rules.specs.Laws.{Laws, InTurn, Stretch, StaysAbove, answers_after, record_after, push_zero}
 use Rattle.rules.proofs.Walks.{run-append, run-then, situation-run, record_run, answers_replies, along, replies, Along}
 use Rattle.rules.proofs.Strikes.{strikes}
 use Rattle.rules.proofs.Stretches.{across, Kept}

@@ -1,5 +1,5 @@
 -- Each wrong session contradicts the laws on a short list of commands.
-use Rattle.std.proofs.Common.{◌≡◌, ℕ, List, [], ◌∷◌, codes, sym, refl, ◌∙◌, arith}
+use Rattle.std.proofs.Common.{◌≡◌, ℕ, [], ◌∷◌, codes, arith}
 use Rattle.chars.specs.Classes as chars
 use Rattle.words.specs.Words as words
 use Rattle.tokens.specs.Numbers as numbers
@@ -8,7 +8,6 @@ use Rattle.grammar.specs.Machine as machine
 use Rattle.rules.specs.Records.{reading}
 use Rattle.rules.specs.Steps.{Given}
 use Rattle.rules.specs.Table.{refusal}
-use Rattle.rules.specs.Laws.{Laws}
 use Rattle.rules.specs.Wrong.{surplus, refusing, forgetful, Fails, told}
 
 abbrev logic : Given

@@ -1,5 +1,5 @@
 -- What stands in a session, and what a command text asks of it.
-use Rattle.std.specs.Prelude.{ℕ, ◌+◌, ◌-◌, Bool, true, false, cond, List, Some, None, Ok, Err, codes, Option, Result, ◌==◌}
+use Rattle.std.specs.Prelude.{ℕ, ◌+◌, ◌-◌, Bool, cond, List, Some, None, Ok, Err, codes, Option, Result, ◌==◌}
 use Rattle.words.specs.Words.{same}
 use Rattle.tokens.specs.Lexing.{tokens, bytes_of}
 use Rattle.forms.specs.declared.Command.{Command}

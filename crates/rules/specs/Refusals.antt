@@ -1,8 +1,6 @@
 -- Number and place of each fault.
 use Rattle.std.specs.Prelude.{ℕ}
-use Rattle.tokens.specs.declared.TokenFault.{TokenFault}
 use Rattle.tokens.specs.declared.TokenFault.TheVariants.{Unexpected, Malformed, TooLong}
-use Rattle.forms.specs.declared.FormFault.{FormFault}
 use Rattle.forms.specs.declared.FormFault.TheVariants.{Unclosed, Nested, Outside}
 use Rattle.rules.specs.declared.Fault.{Fault}
 use Rattle.rules.specs.declared.Fault.TheVariants.{Page, Text, Ended, Token, Form, Mode, Logic, Depth}

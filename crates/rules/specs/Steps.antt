@@ -1,5 +1,5 @@
 -- What the session does with a command, test by test.
-use Rattle.std.specs.Prelude.{◌≡◌, ℕ, ◌+◌, ◌-◌, ◌≤◌, Bool, true, false, cond, List, [], ◌∷◌, ◌++◌, length, take, drop, Some, None, Ok, Err, codes, Option, Result, nat_lt}
+use Rattle.std.specs.Prelude.{◌≡◌, ℕ, ◌+◌, ◌≤◌, Bool, true, false, cond, List, [], ◌∷◌, ◌++◌, length, take, drop, Some, None, Ok, Err, codes, Option, Result, nat_lt}
 use Rattle.page.specs.Pages.{complaint}
 use Rattle.forms.specs.declared.Command.{Command}
 use Rattle.rules.specs.declared.Logic.{Logic}

@@ -1,18 +1,15 @@
 -- The refusal table: the answer is that of the first row that applies.
-use Rattle.std.specs.Prelude.{ℕ, ◌+◌, Bool, true, false, cond, not, ◌&&◌, ◌||◌, List, [], ◌∷◌, ◌++◌, length, Some, None, Ok, Err, codes, Option, Result, ◌==◌, nat_lt}
-use Rattle.tokens.specs.declared.TokenFault.{TokenFault}
+use Rattle.std.specs.Prelude.{ℕ, ◌+◌, Bool, true, false, cond, not, ◌&&◌, ◌||◌, List, [], ◌∷◌, length, Some, None, Ok, Err, Option, Result, ◌==◌, nat_lt}
 use Rattle.tokens.specs.declared.TokenFault.TheVariants.{Unexpected, Malformed, TooLong}
-use Rattle.forms.specs.declared.FormFault.{FormFault}
 use Rattle.forms.specs.declared.FormFault.TheVariants.{Unclosed, Nested, Outside}
 use Rattle.forms.specs.declared.Command.{Command}
 use Rattle.page.specs.Pages.{complaint}
-use Rattle.rules.specs.declared.Logic.{Logic}
 use Rattle.rules.specs.declared.Mode.{Mode}
-use Rattle.rules.specs.declared.Mode.TheVariants.{Start, Assert, Sat, Unsat}
+use Rattle.rules.specs.declared.Mode.TheVariants.{Start, Assert}
 use Rattle.rules.specs.declared.Fault.{Fault}
 use Rattle.rules.specs.declared.Fault.TheVariants as faults
 use Rattle.rules.specs.declared.Said.TheVariants.{Success, Unsupported}
-use Rattle.rules.specs.Records.{Record, Request, set-logic, push, pop, reason, reset, exit, unsupported, reading, asked, feed}
+use Rattle.rules.specs.Records.{Request, set-logic, push, pop, reason, reset, exit, unsupported, reading, asked, feed}
 use Rattle.rules.specs.Steps.{State, new_state, is_start, Given, Answer, printed}
 
 -- The rows, in the order in which they are tried.

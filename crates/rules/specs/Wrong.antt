@@ -1,7 +1,7 @@
 -- Sessions that would be wrong, to hold the laws against.
-use Rattle.std.specs.Prelude.{ℕ, Bool, true, false, cond, List, [], ◌∷◌, codes, ◌==◌}
-use Rattle.rules.specs.Steps.{State, new_state, Given, Answer}
-use Rattle.rules.specs.Table.{refusal, answer, step, run}
+use Rattle.std.specs.Prelude.{ℕ, cond, List, [], ◌∷◌, ◌==◌}
+use Rattle.rules.specs.Steps.{State, new_state, Given}
+use Rattle.rules.specs.Table.{refusal, answer, step}
 use Rattle.rules.specs.Laws.{Behaviour, Laws}
 
 -- It prints the error for a surplus pop, and pops all the same.

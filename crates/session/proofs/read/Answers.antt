@@ -1,9 +1,8 @@
-use Rattle.std.proofs.Common.{◌≡◌, ℕ, ◌-◌, List, Ok, Result, length, take, sym, ap, ◌∙◌, arith, rules}
+use Rattle.std.proofs.Common.{◌≡◌, ℕ, ◌-◌, List, Ok, take, sym, ap, ◌∙◌, arith, rules}
 use Rattle.tokens.specs.declared.Token.{Token}
 use Rattle.tokens.specs.Lexing.{tokens}
 use Rattle.forms.specs.declared.Command.{Command}
 use Rattle.forms.specs.Forms.{formed}
-use Rattle.rules.specs.declared.Fault.{Fault}
 use Rattle.rules.specs.declared.Fault.TheVariants as faults
 use Rattle.rules.specs.Records.{through, reading}
 use Rattle.session.proofs.read.Goals as goal

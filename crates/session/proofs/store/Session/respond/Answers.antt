@@ -1,6 +1,5 @@
-use Rattle.std.proofs.Common.{◌≡◌, sym, refl, ap, ◌∙◌, arith, rules}
-use Rattle.rules.specs.Steps.{acted, spoken}
-use Rattle.rules.specs.Table.{answer}
+use Rattle.std.proofs.Common.{sym, refl, ap, ◌∙◌, arith, rules}
+use Rattle.rules.specs.Steps.{spoken}
 use Rattle.session.specs.Views.{view, given}
 use Rattle.rules.proofs.Bridge.{small_step, acted-step, replied_by}
 use Rattle.session.proofs.store.Session.respond.Goals as goal
