@@ -1,5 +1,5 @@
 -- What is printed piece by piece is the transcript.
-use Rattle.std.proofs.Common.{◌≡◌, ℕ, Bool, true, false, cond, ◌||◌, ltb, List, [], ◌∷◌, ◌++◌, length, is_ok, IfOk, Ok, Err, Result, sym, refl, ap, ◌∙◌, subst, append_assoc}
+use Rattle.std.proofs.Common.{◌≡◌, ℕ, Bool, true, false, cond, ◌||◌, ltb, List, [], ◌∷◌, ◌++◌, length, is_ok, IfOk, Ok, Err, Result, sym, refl, ap, ◌∙◌, append_assoc}
 use Rattle.page.specs.Pages.{complaint}
 use Rattle.pieces.specs.Cuts.{pieces}
 use Rattle.rules.specs.Steps.{State, new_state, Given}

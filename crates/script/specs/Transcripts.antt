@@ -1,5 +1,5 @@
 -- What is printed for a whole script.
-use Rattle.std.specs.Prelude.{ℕ, Bool, true, false, cond, ◌&&◌, List, [], ◌∷◌, ◌++◌, length, ◌==◌, nat_lt}
+use Rattle.std.specs.Prelude.{ℕ, Bool, cond, ◌&&◌, List, [], ◌∷◌, ◌++◌, length, ◌==◌, nat_lt}
 use Rattle.page.specs.Pages.{complaint}
 use Rattle.pieces.specs.Cuts.{pieces}
 use Rattle.rules.specs.Records.{reading, asked}

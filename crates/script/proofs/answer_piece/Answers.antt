@@ -1,5 +1,4 @@
-use Rattle.std.proofs.Common.{◌≡◌, ◌-◌, ◌++◌, length, take, vec_items, sym, refl, ap, ◌∙◌, subst, arith, rules}
-use Rattle.rules.specs.Steps.{Replied}
+use Rattle.std.proofs.Common.{◌≡◌, ◌-◌, ◌++◌, length, take, vec_items, ap, ◌∙◌, arith, rules}
 use Rattle.rules.specs.Table.{answer, step}
 use Rattle.session.specs.Views.{view}
 use Rattle.std.proofs.lemmas.Result.{IfOk-weaker}

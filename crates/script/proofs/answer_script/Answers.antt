@@ -1,4 +1,4 @@
-use Rattle.std.proofs.Common.{◌≡◌, ◌++◌, vec_items, sym, refl, ap, ◌∙◌, arith, rules}
+use Rattle.std.proofs.Common.{◌++◌, refl, ap, ◌∙◌, arith, rules}
 use Rattle.pieces.specs.Cuts.{pieces}
 use Rattle.session.specs.Views.{view}
 use Rattle.script.specs.Transcripts.{responses_from}
