@@ -2,10 +2,10 @@
 use Rattle.std.proofs.Common.{◌≡◌, ℕ, List, [], ◌∷◌, ◌++◌, Ok, sym, refl, ap, ◌∙◌, subst}
 use Rattle.words.specs.declared.Word.TheVariants as words
 use Rattle.tokens.specs.declared.Token.{Token}
-use Rattle.grammar.specs.Marks.{mark, open_list, close-list, word, numeral, marks}
+use Rattle.grammar.specs.Marks.{mark, open_list, close_list, word, numeral, marks}
 use Rattle.forms.specs.declared.Command.{Command}
 use Rattle.forms.specs.declared.Command.TheVariants.{SetLogic, DeclareSort, DeclareFun, DeclareConst, Assert, Push, Pop, CheckSat, CheckSatAssuming, GetValue, GetInfo, Reset, Exit, Other}
-use Rattle.forms.specs.Syntax.{Name, SortName, Term, set-logic, declare_sort, declare_fun, declare_const, assert, push, pop, check_sat, check_sat_assuming, get_value, get_info, reset, exit, Tree, command, other, symbol_mark, spell_sort, spell_sorts, spell_term, spell}
+use Rattle.forms.specs.Syntax.{Name, SortName, Term, set_logic, declare_sort, declare_fun, declare_const, assert, push, pop, check_sat, check_sat_assuming, get_value, get_info, reset, exit, Tree, command, other, symbol_mark, spell_sort, spell_sorts, spell_term, spell}
 use Rattle.forms.specs.Trees.{tree_of}
 use Rattle.forms.specs.Forms.{formed}
 use Rattle.forms.specs.Laws.{Points}
@@ -30,7 +30,7 @@ Shaped t Exit = Unit {0}
 Shaped t Other = Unit {0}
 
 shaped : (text : List ℕ) (t : Tree) (c : Command) → Points text t c → Shaped t c
-shaped text (command o w (set-logic n) e) c h = subst (Shaped (command o w (set-logic n) e)) (sym h.1) tt
+shaped text (command o w (set_logic n) e) c h = subst (Shaped (command o w (set_logic n) e)) (sym h.1) tt
 shaped text (command o w (declare_sort n z) e) c h = subst (Shaped (command o w (declare_sort n z) e)) (sym h) (o, w, e, (n, z, refl))
 shaped text (command o w (declare_fun n p ss q s) e) c h = subst (Shaped (command o w (declare_fun n p ss q s) e)) (sym h) (o, w, e, (n, p, ss, q, s, refl))
 shaped text (command o w (declare_const n s) e) c h = subst (Shaped (command o w (declare_const n s) e)) (sym h) (o, w, e, (n, s, refl))
@@ -59,21 +59,21 @@ module _ (text : List ℕ) (ts : List Token) where
 
   pub assert-marks : formed text ts ≡ Ok Assert → (o w c : ℕ) × ((t : Term)
       × (tree_of (marks text ts) ≡ command o w (assert t) c)
-      × (marks text ts ≡ mark open_list o ∷ (mark (word words.Assert) w ∷ (spell_term t ++ (mark close-list c ∷ [])))))
+      × (marks text ts ≡ mark open_list o ∷ (mark (word words.Assert) w ∷ (spell_term t ++ (mark close_list c ∷ [])))))
   assert-marks e =
       let s = read_shape Assert e in
       (s.0, s.1, s.2, (s.3.0, s.3.1, read-marks Assert e (command s.0 s.1 (assert s.3.0) s.2) s.3.1))
 
   pub declare_sort_marks : formed text ts ≡ Ok DeclareSort → (o w c : ℕ) × ((n : Name) × (z : ℕ)
       × (tree_of (marks text ts) ≡ command o w (declare_sort n z) c)
-      × (marks text ts ≡ mark open_list o ∷ (mark (word words.DeclareSort) w ∷ (symbol_mark n ∷ (mark (numeral 0) z ∷ (mark close-list c ∷ []))))))
+      × (marks text ts ≡ mark open_list o ∷ (mark (word words.DeclareSort) w ∷ (symbol_mark n ∷ (mark (numeral 0) z ∷ (mark close_list c ∷ []))))))
   declare_sort_marks e =
       let s = read_shape DeclareSort e in
       (s.0, s.1, s.2, (s.3.0, s.3.1, s.3.2, read-marks DeclareSort e (command s.0 s.1 (declare_sort s.3.0 s.3.1) s.2) s.3.2))
 
   pub declare_fun_marks : formed text ts ≡ Ok DeclareFun → (o w c : ℕ) × ((n : Name) × (p : ℕ) × (ss : List SortName) × (q : ℕ) × (s : SortName)
       × (tree_of (marks text ts) ≡ command o w (declare_fun n p ss q s) c)
-      × (marks text ts ≡ mark open_list o ∷ (mark (word words.DeclareFun) w ∷ (symbol_mark n ∷ (mark open_list p ∷ ((spell_sorts ss ++ (mark close-list q ∷ spell_sort s)) ++ (mark close-list c ∷ [])))))))
+      × (marks text ts ≡ mark open_list o ∷ (mark (word words.DeclareFun) w ∷ (symbol_mark n ∷ (mark open_list p ∷ ((spell_sorts ss ++ (mark close_list q ∷ spell_sort s)) ++ (mark close_list c ∷ [])))))))
   declare_fun_marks e =
       let s = read_shape DeclareFun e in (
         s.0,
@@ -92,7 +92,7 @@ module _ (text : List ℕ) (ts : List Token) where
 
   pub declare_const_marks : formed text ts ≡ Ok DeclareConst → (o w c : ℕ) × ((n : Name) × (s : SortName)
       × (tree_of (marks text ts) ≡ command o w (declare_const n s) c)
-      × (marks text ts ≡ mark open_list o ∷ (mark (word words.DeclareConst) w ∷ (symbol_mark n ∷ (spell_sort s ++ (mark close-list c ∷ []))))))
+      × (marks text ts ≡ mark open_list o ∷ (mark (word words.DeclareConst) w ∷ (symbol_mark n ∷ (spell_sort s ++ (mark close_list c ∷ []))))))
   declare_const_marks e =
       let s = read_shape DeclareConst e in
       (s.0, s.1, s.2, (s.3.0, s.3.1, s.3.2, read-marks DeclareConst e (command s.0 s.1 (declare_const s.3.0 s.3.1) s.2) s.3.2))

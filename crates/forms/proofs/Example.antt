@@ -5,7 +5,7 @@ use Rattle.tokens.specs.declared.Kind.TheVariants.{Opening, Closing, Name, Liter
 use Rattle.tokens.specs.declared.Token.{Token}
 use Rattle.tokens.specs.Lexing.{token}
 use Rattle.grammar.specs.Marks.{marks}
-use Rattle.forms.specs.Syntax.{command, assert, apply, term-symbol, constant, no_terms, more-terms}
+use Rattle.forms.specs.Syntax.{command, assert, apply, term_symbol, constant, no_terms, more_terms}
 use Rattle.forms.specs.Trees.{tree_of}
 
 abbrev text : List ℕ
@@ -25,7 +25,7 @@ tokens =
 
 pub example_tree : tree_of (marks text tokens)
     ≡ command 0 1
-    (assert (apply 8 (record { bytes = codes "="; at = 9 }) (term-symbol (record { bytes = codes "a"; at = 11 })) (more-terms (constant 2 1 13) no_terms) 17))
+    (assert (apply 8 (record { bytes = codes "="; at = 9 }) (term_symbol (record { bytes = codes "a"; at = 11 })) (more_terms (constant 2 1 13) no_terms) 17))
     18
 unfolding words.same words.spells words.word_of
 example_tree = refl

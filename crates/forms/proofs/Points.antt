@@ -6,9 +6,9 @@ use Rattle.tokens.specs.declared.Kind.{Kind}
 use Rattle.tokens.specs.declared.Kind.TheVariants.{Opening, Closing, Name, Keyword, Numeral, Literal}
 use Rattle.tokens.specs.declared.Token.{Token}
 use Rattle.tokens.specs.Lexing.{bytes_of}
-use Rattle.grammar.specs.Marks.{Mark, mark, Lexeme, open_list, close-list, word, symbol, keyword, numeral, literal, symbol_or, lexeme_of, mark_of, marks, sign}
+use Rattle.grammar.specs.Marks.{Mark, mark, Lexeme, open_list, close_list, word, symbol, keyword, numeral, literal, symbol_or, lexeme_of, mark_of, marks, sign}
 use Rattle.forms.specs.declared.Command.TheVariants.{Push, Pop}
-use Rattle.forms.specs.Syntax.{Operands, set-logic, declare_sort, declare_fun, declare_const, assert, push, pop, check_sat, check_sat_assuming, get_value, get_info, reset, exit, Tree, command, other, word_of_form, spell}
+use Rattle.forms.specs.Syntax.{Operands, set_logic, declare_sort, declare_fun, declare_const, assert, push, pop, check_sat, check_sat_assuming, get_value, get_info, reset, exit, Tree, command, other, word_of_form, spell}
 use Rattle.forms.specs.Forms.{number_of, word_command, headed, no_token, command_of}
 use Rattle.forms.specs.Laws.{no_mark, Spells, PointsAt, Points}
 use Rattle.forms.proofs.Accepts.{symbol_alike}
@@ -21,7 +21,7 @@ mark-at text (t ∷ ts) (suc i) = mark-at text ts i
 -- the parts of what a token says, or a given value
 abbrev symbol_of : List ℕ → Lexeme → List ℕ
 symbol_of d open_list = d
-symbol_of d close-list = d
+symbol_of d close_list = d
 symbol_of d (word w) = d
 symbol_of d (symbol bs) = bs
 symbol_of d (keyword bs) = d
@@ -30,7 +30,7 @@ symbol_of d (literal w v) = d
 
 abbrev keyword_of : List ℕ → Lexeme → List ℕ
 keyword_of d open_list = d
-keyword_of d close-list = d
+keyword_of d close_list = d
 keyword_of d (word w) = d
 keyword_of d (symbol bs) = d
 keyword_of d (keyword bs) = bs
@@ -39,7 +39,7 @@ keyword_of d (literal w v) = d
 
 abbrev numeral_of : Lexeme → ℕ
 numeral_of open_list = 0
-numeral_of close-list = 0
+numeral_of close_list = 0
 numeral_of (word w) = 0
 numeral_of (symbol bs) = 0
 numeral_of (keyword bs) = 0
@@ -99,7 +99,7 @@ module _ (text : List ℕ) (t : Token) (m : Mark) (e : m ≡ mark_of text t) whe
 
 -- the command of a word, where the third token is the third mark
 word_points : (text : List ℕ) (x : Operands) (o w c : ℕ) (t : Token) → get_or (spell (command o w x c)) 2 no_mark ≡ mark_of text t → PointsAt text x (word_command (word_of_form x) t)
-word_points text (set-logic n) o w c t e = (t, refl, spells-symbol text t _ e n refl)
+word_points text (set_logic n) o w c t e = (t, refl, spells-symbol text t _ e n refl)
 word_points text (declare_sort n z) o w c t e = refl
 word_points text (declare_fun n p ss q s) o w c t e = refl
 word_points text (declare_const n s) o w c t e = refl

@@ -10,9 +10,9 @@ use Rattle.grammar.specs.declared.items.Item.{Item}
 use Rattle.grammar.specs.declared.items.Item.TheVariants as items
 use Rattle.grammar.specs.declared.items.Outcome.{Outcome}
 use Rattle.grammar.specs.declared.items.Outcome.TheVariants.{Accepted, Wrong, Short}
-use Rattle.grammar.specs.Marks.{Mark, mark, Lexeme, open_list, close-list, word, symbol, keyword, numeral, literal, sign}
+use Rattle.grammar.specs.Marks.{Mark, mark, Lexeme, open_list, close_list, word, symbol, keyword, numeral, literal, sign}
 use Rattle.grammar.specs.Machine.{form_of, is_underscore, only, replacement, then_run, run}
-use Rattle.forms.specs.Syntax.{Name, sort-symbol, bit_vectors, term-symbol, constant, apply, no_terms, more-terms, plain, negated, Atom, atom-word, atom-symbol, atom-keyword, atom-numeral, atom-literal, atom, list, no_more, more, set-logic, declare_sort, declare_fun, declare_const, assert, push, pop, check_sat, check_sat_assuming, get_value, get_info, reset, exit, spell_sort, spell_sorts, spell_term, spell_terms, spell_assumptions, spell_atom, spell_expressions}
+use Rattle.forms.specs.Syntax.{Name, sort_symbol, bit_vectors, term_symbol, constant, apply, no_terms, more_terms, plain, negated, Atom, atom_word, atom_symbol, atom_keyword, atom_numeral, atom_literal, atom, list, no_more, more, set_logic, declare_sort, declare_fun, declare_const, assert, push, pop, check_sat, check_sat_assuming, get_value, get_info, reset, exit, spell_sort, spell_sorts, spell_term, spell_terms, spell_assumptions, spell_atom, spell_expressions}
 use Rattle.forms.proofs.Parses.{Parses, writes}
 use Rattle.forms.proofs.Accepts.{symbol_alike, inner}
 
@@ -27,7 +27,7 @@ name bs p = record { bytes = bs; at = p }
 back_open : (l : Lexeme) → Back items.OpenList l (replacement items.OpenList (sign l))
 unfolding replacement
 back_open open_list = λ σ p x. ((p, x), refl)
-back_open close-list = tt
+back_open close_list = tt
 back_open (word w) = tt
 back_open (symbol bs) = subst (Back items.OpenList (symbol bs)) (sym (symbol_alike (replacement items.OpenList) bs refl refl)) tt
 back_open (keyword bs) = tt
@@ -37,7 +37,7 @@ back_open (literal w v) = tt
 back-close : (l : Lexeme) → Back items.CloseList l (replacement items.CloseList (sign l))
 unfolding replacement
 back-close open_list = tt
-back-close close-list = λ σ p x. ((p, x), refl)
+back-close close_list = λ σ p x. ((p, x), refl)
 back-close (word w) = tt
 back-close (symbol bs) = subst (Back items.CloseList (symbol bs)) (sym (symbol_alike (replacement items.CloseList) bs refl refl)) tt
 back-close (keyword bs) = tt
@@ -47,7 +47,7 @@ back-close (literal w v) = tt
 back-name : (l : Lexeme) → Back items.AName l (replacement items.AName (sign l))
 unfolding replacement name
 back-name open_list = tt
-back-name close-list = tt
+back-name close_list = tt
 back-name (word w) = tt
 back-name (symbol bs) = subst (Back items.AName (symbol bs)) (sym (symbol_alike (replacement items.AName) bs refl refl)) (λ σ p x. ((name bs p, x), refl))
 back-name (keyword bs) = tt
@@ -57,7 +57,7 @@ back-name (literal w v) = tt
 back-keyword : (l : Lexeme) → Back items.AKeyword l (replacement items.AKeyword (sign l))
 unfolding replacement name
 back-keyword open_list = tt
-back-keyword close-list = tt
+back-keyword close_list = tt
 back-keyword (word w) = tt
 back-keyword (symbol bs) = subst (Back items.AKeyword (symbol bs)) (sym (symbol_alike (replacement items.AKeyword) bs refl refl)) tt
 back-keyword (keyword bs) = λ σ p x. ((name bs p, x), refl)
@@ -67,7 +67,7 @@ back-keyword (literal w v) = tt
 back-numeral : (l : Lexeme) → Back items.ANumeral l (replacement items.ANumeral (sign l))
 unfolding replacement
 back-numeral open_list = tt
-back-numeral close-list = tt
+back-numeral close_list = tt
 back-numeral (word w) = tt
 back-numeral (symbol bs) = subst (Back items.ANumeral (symbol bs)) (sym (symbol_alike (replacement items.ANumeral) bs refl refl)) tt
 back-numeral (keyword bs) = tt
@@ -81,7 +81,7 @@ zero_only n false e = tt
 back_zero : (l : Lexeme) → Back items.AZero l (replacement items.AZero (sign l))
 unfolding replacement
 back_zero open_list = tt
-back_zero close-list = tt
+back_zero close_list = tt
 back_zero (word w) = tt
 back_zero (symbol bs) = subst (Back items.AZero (symbol bs)) (sym (symbol_alike (replacement items.AZero) bs refl refl)) tt
 back_zero (keyword bs) = tt
@@ -91,9 +91,9 @@ back_zero (literal w v) = tt
 back-sort : (l : Lexeme) → Back items.ASort l (replacement items.ASort (sign l))
 unfolding replacement name
 back-sort open_list = λ σ p x. ((bit_vectors p x.0 x.1.0 x.1.1.0 x.1.1.1.0, x.1.1.1.1), refl)
-back-sort close-list = tt
+back-sort close_list = tt
 back-sort (word w) = tt
-back-sort (symbol bs) = subst (Back items.ASort (symbol bs)) (sym (symbol_alike (replacement items.ASort) bs refl refl)) (λ σ p x. ((sort-symbol (name bs p), x), refl))
+back-sort (symbol bs) = subst (Back items.ASort (symbol bs)) (sym (symbol_alike (replacement items.ASort) bs refl refl)) (λ σ p x. ((sort_symbol (name bs p), x), refl))
 back-sort (keyword bs) = tt
 back-sort (numeral n) = tt
 back-sort (literal w v) = tt
@@ -101,9 +101,9 @@ back-sort (literal w v) = tt
 back-sorts : (l : Lexeme) → Back items.Sorts l (replacement items.Sorts (sign l))
 unfolding replacement name
 back-sorts open_list = λ σ p x. (((bit_vectors p x.0 x.1.0 x.1.1.0 x.1.1.1.0 ∷ x.1.1.1.1.0.0, x.1.1.1.1.0.1), x.1.1.1.1.1), refl)
-back-sorts close-list = λ σ p x. ((([], p), x), refl)
+back-sorts close_list = λ σ p x. ((([], p), x), refl)
 back-sorts (word w) = tt
-back-sorts (symbol bs) = subst (Back items.Sorts (symbol bs)) (sym (symbol_alike (replacement items.Sorts) bs refl refl)) (λ σ p x. (((sort-symbol (name bs p) ∷ x.0.0, x.0.1), x.1), refl))
+back-sorts (symbol bs) = subst (Back items.Sorts (symbol bs)) (sym (symbol_alike (replacement items.Sorts) bs refl refl)) (λ σ p x. (((sort_symbol (name bs p) ∷ x.0.0, x.0.1), x.1), refl))
 back-sorts (keyword bs) = tt
 back-sorts (numeral n) = tt
 back-sorts (literal w v) = tt
@@ -112,11 +112,11 @@ back-term : (l : Lexeme) → Back items.ATerm l (replacement items.ATerm (sign l
 unfolding replacement name
 back-term open_list = λ σ p x. (
   (apply p x.0 x.1.0 x.1.1.0.0 x.1.1.0.1, x.1.1.1),
-  ap (λ l. mark open_list p ∷ (mark (symbol x.0.bytes) x.0.at ∷ l)) (inner (spell_term x.1.0) (spell_terms x.1.1.0.0) (mark close-list x.1.1.0.1) (writes σ x.1.1.1)),
+  ap (λ l. mark open_list p ∷ (mark (symbol x.0.bytes) x.0.at ∷ l)) (inner (spell_term x.1.0) (spell_terms x.1.1.0.0) (mark close_list x.1.1.0.1) (writes σ x.1.1.1)),
 )
-back-term close-list = tt
+back-term close_list = tt
 back-term (word w) = tt
-back-term (symbol bs) = subst (Back items.ATerm (symbol bs)) (sym (symbol_alike (replacement items.ATerm) bs refl refl)) (λ σ p x. ((term-symbol (name bs p), x), refl))
+back-term (symbol bs) = subst (Back items.ATerm (symbol bs)) (sym (symbol_alike (replacement items.ATerm) bs refl refl)) (λ σ p x. ((term_symbol (name bs p), x), refl))
 back-term (keyword bs) = tt
 back-term (numeral n) = tt
 back-term (literal w v) = λ σ p x. ((constant w v p, x), refl)
@@ -128,21 +128,21 @@ many t us ts c ms = append_assoc (t ++ (ts ++ (c ∷ []))) us ms ∙ inner t ts 
 back-terms : (l : Lexeme) → Back items.Terms l (replacement items.Terms (sign l))
 unfolding replacement name
 back-terms open_list = λ σ p x. (
-  ((more-terms (apply p x.0 x.1.0 x.1.1.0.0 x.1.1.0.1) x.1.1.1.0.0, x.1.1.1.0.1), x.1.1.1.1),
+  ((more_terms (apply p x.0 x.1.0 x.1.1.0.0 x.1.1.0.1) x.1.1.1.0.0, x.1.1.1.0.1), x.1.1.1.1),
   ap (λ l. mark open_list p ∷ (mark (symbol x.0.bytes) x.0.at ∷ l))
-      (many (spell_term x.1.0) (spell_terms x.1.1.1.0.0) (spell_terms x.1.1.0.0) (mark close-list x.1.1.0.1) (mark close-list x.1.1.1.0.1 ∷ writes σ x.1.1.1.1)),
+      (many (spell_term x.1.0) (spell_terms x.1.1.1.0.0) (spell_terms x.1.1.0.0) (mark close_list x.1.1.0.1) (mark close_list x.1.1.1.0.1 ∷ writes σ x.1.1.1.1)),
 )
-back-terms close-list = λ σ p x. (((no_terms, p), x), refl)
+back-terms close_list = λ σ p x. (((no_terms, p), x), refl)
 back-terms (word w) = tt
-back-terms (symbol bs) = subst (Back items.Terms (symbol bs)) (sym (symbol_alike (replacement items.Terms) bs refl refl)) (λ σ p x. (((more-terms (term-symbol (name bs p)) x.0.0, x.0.1), x.1), refl))
+back-terms (symbol bs) = subst (Back items.Terms (symbol bs)) (sym (symbol_alike (replacement items.Terms) bs refl refl)) (λ σ p x. (((more_terms (term_symbol (name bs p)) x.0.0, x.0.1), x.1), refl))
 back-terms (keyword bs) = tt
 back-terms (numeral n) = tt
-back-terms (literal w v) = λ σ p x. (((more-terms (constant w v p) x.0.0, x.0.1), x.1), refl)
+back-terms (literal w v) = λ σ p x. (((more_terms (constant w v p) x.0.0, x.0.1), x.1), refl)
 
 back_assumptions : (l : Lexeme) → Back items.Assumptions l (replacement items.Assumptions (sign l))
 unfolding replacement name
 back_assumptions open_list = λ σ p x. (((negated p x.0 x.1.0 x.1.1.0 ∷ x.1.1.1.0.0, x.1.1.1.0.1), x.1.1.1.1), refl)
-back_assumptions close-list = λ σ p x. ((([], p), x), refl)
+back_assumptions close_list = λ σ p x. ((([], p), x), refl)
 back_assumptions (word w) = tt
 back_assumptions (symbol bs) = subst (Back items.Assumptions (symbol bs)) (sym (symbol_alike (replacement items.Assumptions) bs refl refl)) (λ σ p x. (((plain (name bs p) ∷ x.0.0, x.0.1), x.1), refl))
 back_assumptions (keyword bs) = tt
@@ -180,7 +180,7 @@ underscore_only words.Strings = tt
 back_underscore : (l : Lexeme) → Back items.AnUnderscore l (replacement items.AnUnderscore (sign l))
 unfolding replacement
 back_underscore open_list = tt
-back_underscore close-list = tt
+back_underscore close_list = tt
 back_underscore (word w) = underscore_only w
 back_underscore (symbol bs) = subst (Back items.AnUnderscore (symbol bs)) (sym (symbol_alike (replacement items.AnUnderscore) bs refl refl)) tt
 back_underscore (keyword bs) = tt
@@ -197,7 +197,7 @@ bit_vec_only bs false false e = tt
 back_bit_vec : (l : Lexeme) → Back items.ABitVec l (replacement items.ABitVec (sign l))
 unfolding replacement
 back_bit_vec open_list = tt
-back_bit_vec close-list = tt
+back_bit_vec close_list = tt
 back_bit_vec (word w) = tt
 back_bit_vec (symbol bs) = bit_vec_only bs (same bs (codes "BitVec")) (same bs (codes "not")) refl
 back_bit_vec (keyword bs) = tt
@@ -213,7 +213,7 @@ not_only bs false false e = tt
 back_not : (l : Lexeme) → Back items.ANot l (replacement items.ANot (sign l))
 unfolding replacement
 back_not open_list = tt
-back_not close-list = tt
+back_not close_list = tt
 back_not (word w) = tt
 back_not (symbol bs) = not_only bs (same bs (codes "BitVec")) (same bs (codes "not")) refl
 back_not (keyword bs) = tt
@@ -228,23 +228,23 @@ unfolding replacement
 back_anything open_list = λ σ p x. (
   ((more (list p x.0.0 x.0.1) x.1.0.0, x.1.0.1), x.1.1),
   ap (λ l. mark open_list p ∷ l)
-      (append_assoc (spell_expressions x.0.0 ++ (mark close-list x.0.1 ∷ [])) (spell_expressions x.1.0.0) (mark close-list x.1.0.1 ∷ writes σ x.1.1)
-      ∙ append_assoc (spell_expressions x.0.0) (mark close-list x.0.1 ∷ []) (spell_expressions x.1.0.0 ++ (mark close-list x.1.0.1 ∷ writes σ x.1.1))),
+      (append_assoc (spell_expressions x.0.0 ++ (mark close_list x.0.1 ∷ [])) (spell_expressions x.1.0.0) (mark close_list x.1.0.1 ∷ writes σ x.1.1)
+      ∙ append_assoc (spell_expressions x.0.0) (mark close_list x.0.1 ∷ []) (spell_expressions x.1.0.0 ++ (mark close_list x.1.0.1 ∷ writes σ x.1.1))),
 )
-back_anything close-list = λ σ p x. (((no_more, p), x), refl)
-back_anything (word w) = one-atom (atom-word w)
-back_anything (symbol bs) = subst (Back items.Anything (symbol bs)) (sym (symbol_alike (replacement items.Anything) bs refl refl)) (one-atom (atom-symbol bs))
-back_anything (keyword bs) = one-atom (atom-keyword bs)
-back_anything (numeral n) = one-atom (atom-numeral n)
-back_anything (literal w v) = one-atom (atom-literal w v)
+back_anything close_list = λ σ p x. (((no_more, p), x), refl)
+back_anything (word w) = one-atom (atom_word w)
+back_anything (symbol bs) = subst (Back items.Anything (symbol bs)) (sym (symbol_alike (replacement items.Anything) bs refl refl)) (one-atom (atom_symbol bs))
+back_anything (keyword bs) = one-atom (atom_keyword bs)
+back_anything (numeral n) = one-atom (atom_numeral n)
+back_anything (literal w v) = one-atom (atom_literal w v)
 
 form_only : (w : Word) → Back items.Command (word w) (form_of w)
-form_only words.SetLogic = λ σ p x. ((inl (p, set-logic x.0, x.1.0), x.1.1), refl)
+form_only words.SetLogic = λ σ p x. ((inl (p, set_logic x.0, x.1.0), x.1.1), refl)
 form_only words.DeclareSort = λ σ p x. ((inl (p, declare_sort x.0 x.1.0, x.1.1.0), x.1.1.1), refl)
 form_only words.DeclareFun = λ σ p x. (
   (inl (p, declare_fun x.0 x.1.0 x.1.1.0.0 x.1.1.0.1 x.1.1.1.0, x.1.1.1.1.0), x.1.1.1.1.1),
   ap (λ l. mark (word words.DeclareFun) p ∷ (mark (symbol x.0.bytes) x.0.at ∷ (mark open_list x.1.0 ∷ l)))
-      (append_assoc (spell_sorts x.1.1.0.0) (mark close-list x.1.1.0.1 ∷ spell_sort x.1.1.1.0) (mark close-list x.1.1.1.1.0 ∷ writes σ x.1.1.1.1.1)),
+      (append_assoc (spell_sorts x.1.1.0.0) (mark close_list x.1.1.0.1 ∷ spell_sort x.1.1.1.0) (mark close_list x.1.1.1.1.0 ∷ writes σ x.1.1.1.1.1)),
 )
 form_only words.DeclareConst = λ σ p x. ((inl (p, declare_const x.0 x.1.0, x.1.1.0), x.1.1.1), refl)
 form_only words.Assert = λ σ p x. ((inl (p, assert x.0, x.1.0), x.1.1), refl)
@@ -254,12 +254,12 @@ form_only words.CheckSat = λ σ p x. ((inl (p, check_sat, x.0), x.1), refl)
 form_only words.CheckSatAssuming = λ σ p x. (
   (inl (p, check_sat_assuming x.0 x.1.0.0 x.1.0.1, x.1.1.0), x.1.1.1),
   ap (λ l. mark (word words.CheckSatAssuming) p ∷ (mark open_list x.0 ∷ l))
-      (append_assoc (spell_assumptions x.1.0.0) (mark close-list x.1.0.1 ∷ []) (mark close-list x.1.1.0 ∷ writes σ x.1.1.1)),
+      (append_assoc (spell_assumptions x.1.0.0) (mark close_list x.1.0.1 ∷ []) (mark close_list x.1.1.0 ∷ writes σ x.1.1.1)),
 )
 form_only words.GetValue = λ σ p x. (
   (inl (p, get_value x.0 x.1.0 x.1.1.0.0 x.1.1.0.1, x.1.1.1.0), x.1.1.1.1),
   ap (λ l. mark (word words.GetValue) p ∷ (mark open_list x.0 ∷ l))
-      (inner (spell_term x.1.0) (spell_terms x.1.1.0.0) (mark close-list x.1.1.0.1) (mark close-list x.1.1.1.0 ∷ writes σ x.1.1.1.1)),
+      (inner (spell_term x.1.0) (spell_terms x.1.1.0.0) (mark close_list x.1.1.0.1) (mark close_list x.1.1.1.0 ∷ writes σ x.1.1.1.1)),
 )
 form_only words.GetInfo = λ σ p x. ((inl (p, get_info x.0, x.1.0), x.1.1), refl)
 form_only words.Reset = λ σ p x. ((inl (p, reset, x.0), x.1), refl)
@@ -281,7 +281,7 @@ form_only words.Strings = tt
 back-command : (l : Lexeme) → Back items.Command l (replacement items.Command (sign l))
 unfolding replacement name
 back-command open_list = tt
-back-command close-list = tt
+back-command close_list = tt
 back-command (word w) = form_only w
 back-command (symbol bs) = subst (Back items.Command (symbol bs)) (sym (symbol_alike (replacement items.Command) bs refl refl)) (λ σ p x. ((inr (name bs p, x.0.0, x.0.1), x.1), refl))
 back-command (keyword bs) = tt

@@ -3,12 +3,12 @@ use Rattle.std.specs.Prelude.{◌≡◌, ℕ, suc, ◌<◌, ◌⊎◌, List, [],
 use Rattle.tokens.specs.declared.Kind.TheVariants.{Opening}
 use Rattle.tokens.specs.declared.Token.{Token}
 use Rattle.tokens.specs.Lexing.{bytes_of}
-use Rattle.grammar.specs.Marks.{Mark, mark, open_list, close-list, marks}
+use Rattle.grammar.specs.Marks.{Mark, mark, open_list, close_list, marks}
 use Rattle.forms.specs.declared.Command.{Command}
 use Rattle.forms.specs.declared.Command.TheVariants.{SetLogic, DeclareSort, DeclareFun, DeclareConst, Assert, Push, Pop, CheckSat, CheckSatAssuming, GetValue, GetInfo, Reset, Exit, Other}
 use Rattle.forms.specs.declared.FormFault.{FormFault}
 use Rattle.forms.specs.declared.FormFault.TheVariants.{Unclosed, Nested, Outside}
-use Rattle.forms.specs.Syntax.{Name, Tree, command, other, Operands, set-logic, declare_sort, declare_fun, declare_const, assert, push, pop, check_sat, check_sat_assuming, get_value, get_info, reset, exit, Expressions, spell, spell_expressions}
+use Rattle.forms.specs.Syntax.{Name, Tree, command, other, Operands, set_logic, declare_sort, declare_fun, declare_const, assert, push, pop, check_sat, check_sat_assuming, get_value, get_info, reset, exit, Expressions, spell, spell_expressions}
 use Rattle.forms.specs.Forms.{no_token, open_behind}
 
 -- The tokens are the spelling of a command.
@@ -17,7 +17,7 @@ InForm ms = (t : Tree) × (spell t ≡ ms)
 
 -- The tokens are one closed list.
 abbrev pub ClosedList : List Mark → Type 0
-ClosedList ms = (o c : ℕ) × ((es : Expressions) × (mark open_list o ∷ (spell_expressions es ++ mark close-list c ∷ []) ≡ ms))
+ClosedList ms = (o c : ℕ) × ((es : Expressions) × (mark open_list o ∷ (spell_expressions es ++ mark close_list c ∷ []) ≡ ms))
 
 -- More tokens can be put behind these so that P holds.
 abbrev pub Continued : (List Mark → Type 0) → List Mark → Type 0
@@ -45,7 +45,7 @@ Spells text n t = (n.bytes ≡ bytes_of text t) × (n.at ≡ t.from)
 
 -- The command as the code has it points at the parts of the tree.
 abbrev pub PointsAt : List ℕ → Operands → Command → Type 0
-PointsAt text (set-logic n) c = (t : Token) × (c ≡ SetLogic t) × Spells text n t
+PointsAt text (set_logic n) c = (t : Token) × (c ≡ SetLogic t) × Spells text n t
 PointsAt text (declare_sort n z) c = c ≡ DeclareSort
 PointsAt text (declare_fun n o ss e s) c = c ≡ DeclareFun
 PointsAt text (declare_const n s) c = c ≡ DeclareConst

@@ -2,8 +2,8 @@
 use Rattle.std.specs.Prelude.{ℕ, List, [], ◌∷◌}
 use Rattle.words.specs.declared.Word.{Word}
 use Rattle.words.specs.declared.Word.TheVariants as words
-use Rattle.grammar.specs.Marks.{Mark, Lexeme, open_list, close-list, word, symbol, keyword, numeral, literal}
-use Rattle.forms.specs.Syntax.{Name, Number, SortName, sort-symbol, bit_vectors, Term, term-symbol, constant, apply, Terms, no_terms, more-terms, Assumption, plain, negated, Atom, atom-word, atom-symbol, atom-keyword, atom-numeral, atom-literal, Expression, atom, list, Expressions, no_more, more, Operands, set-logic, declare_sort, declare_fun, declare_const, assert, push, pop, check_sat, check_sat_assuming, get_value, get_info, reset, exit, Tree, command, other}
+use Rattle.grammar.specs.Marks.{Mark, Lexeme, open_list, close_list, word, symbol, keyword, numeral, literal}
+use Rattle.forms.specs.Syntax.{Name, Number, SortName, sort_symbol, bit_vectors, Term, term_symbol, constant, apply, Terms, no_terms, more_terms, Assumption, plain, negated, Atom, atom_word, atom_symbol, atom_keyword, atom_numeral, atom_literal, Expression, atom, list, Expressions, no_more, more, Operands, set_logic, declare_sort, declare_fun, declare_const, assert, push, pop, check_sat, check_sat_assuming, get_value, get_info, reset, exit, Tree, command, other}
 
 -- Tokens are read from the last back to the first. A level is what was read of a list that is still open to the left: its expressions so far, and the place of its closing parenthesis.
 pub record Level : Type 0 where
@@ -25,12 +25,12 @@ empty_level c = record { inside = no_more; closed = c }
 
 abbrev pub onto_at : Lexeme → ℕ → List Level → List Level
 onto_at open_list p ls = opened p ls
-onto_at close-list p ls = empty_level p ∷ ls
-onto_at (word w) p ls = put (atom (atom-word w) p) ls
-onto_at (symbol bs) p ls = put (atom (atom-symbol bs) p) ls
-onto_at (keyword bs) p ls = put (atom (atom-keyword bs) p) ls
-onto_at (numeral n) p ls = put (atom (atom-numeral n) p) ls
-onto_at (literal w v) p ls = put (atom (atom-literal w v) p) ls
+onto_at close_list p ls = empty_level p ∷ ls
+onto_at (word w) p ls = put (atom (atom_word w) p) ls
+onto_at (symbol bs) p ls = put (atom (atom_symbol bs) p) ls
+onto_at (keyword bs) p ls = put (atom (atom_keyword bs) p) ls
+onto_at (numeral n) p ls = put (atom (atom_numeral n) p) ls
+onto_at (literal w v) p ls = put (atom (atom_literal w v) p) ls
 
 -- One token in front of what was read.
 abbrev pub onto : Mark → List Level → List Level
@@ -73,11 +73,11 @@ parts_of (atom a p) = no_more
 parts_of (list o es c) = es
 
 abbrev pub atom_bytes : Atom → List ℕ
-atom_bytes (atom-word w) = []
-atom_bytes (atom-symbol bs) = bs
-atom_bytes (atom-keyword bs) = bs
-atom_bytes (atom-numeral n) = []
-atom_bytes (atom-literal w v) = []
+atom_bytes (atom_word w) = []
+atom_bytes (atom_symbol bs) = bs
+atom_bytes (atom_keyword bs) = bs
+atom_bytes (atom_numeral n) = []
+atom_bytes (atom_literal w v) = []
 
 abbrev pub bytes_in : Expression → List ℕ
 bytes_in (atom a p) = atom_bytes a
@@ -87,11 +87,11 @@ abbrev pub name_of : Expression → Name
 name_of e = record { bytes = bytes_in e; at = place_of e }
 
 abbrev pub atom_value : Atom → ℕ
-atom_value (atom-word w) = 0
-atom_value (atom-symbol bs) = 0
-atom_value (atom-keyword bs) = 0
-atom_value (atom-numeral n) = n
-atom_value (atom-literal w v) = v
+atom_value (atom_word w) = 0
+atom_value (atom_symbol bs) = 0
+atom_value (atom_keyword bs) = 0
+atom_value (atom_numeral n) = n
+atom_value (atom_literal w v) = v
 
 abbrev pub value_in : Expression → ℕ
 value_in (atom a p) = atom_value a
@@ -105,7 +105,7 @@ abbrev pub bit_vectors_of : ℕ → Expressions → ℕ → SortName
 bit_vectors_of o es c = bit_vectors o (place_of (first_of es)) (place_of (first_of (rest_of es))) (number_in (first_of (rest_of (rest_of es)))) c
 
 abbrev pub sort_of : Expression → SortName
-sort_of (atom a p) = sort-symbol (name_of (atom a p))
+sort_of (atom a p) = sort_symbol (name_of (atom a p))
 sort_of (list o es c) = bit_vectors_of o es c
 
 abbrev pub sorts_of : Expressions → List SortName
@@ -113,16 +113,16 @@ sorts_of no_more = []
 sorts_of (more e es) = sort_of e ∷ sorts_of es
 
 abbrev pub atom_term : Atom → ℕ → Term
-atom_term (atom-word w) p = constant 0 0 p
-atom_term (atom-symbol bs) p = term-symbol (record { bytes = bs; at = p })
-atom_term (atom-keyword bs) p = constant 0 0 p
-atom_term (atom-numeral n) p = constant 0 n p
-atom_term (atom-literal w v) p = constant w v p
+atom_term (atom_word w) p = constant 0 0 p
+atom_term (atom_symbol bs) p = term_symbol (record { bytes = bs; at = p })
+atom_term (atom_keyword bs) p = constant 0 0 p
+atom_term (atom_numeral n) p = constant 0 n p
+atom_term (atom_literal w v) p = constant w v p
 
 -- An application by the place of `(`, its head, its parts, and the place of `)`.
 abbrev pub applied : ℕ → Name → Terms → ℕ → Term
 applied o f no_terms c = constant 0 0 o
-applied o f (more-terms t ts) c = apply o f t ts c
+applied o f (more_terms t ts) c = apply o f t ts c
 
 abbrev mutual
   pub term_of : Expression → Term
@@ -136,7 +136,7 @@ abbrev mutual
 
   pub terms_of : Expressions → Terms
   terms_of no_more = no_terms
-  terms_of (more e es) = more-terms (term_of e) (terms_of es)
+  terms_of (more e es) = more_terms (term_of e) (terms_of es)
 
 abbrev pub assumption_of : Expression → Assumption
 assumption_of (atom a p) = plain (name_of (atom a p))
@@ -148,7 +148,7 @@ assumptions_of (more e es) = assumption_of e ∷ assumptions_of es
 
 -- The operands of a command's word, by the expressions behind it.
 abbrev pub operands_of : Word → Expressions → Operands
-operands_of words.SetLogic es = set-logic (name_of (first_of es))
+operands_of words.SetLogic es = set_logic (name_of (first_of es))
 operands_of words.DeclareSort es = declare_sort (name_of (first_of es)) (place_of (first_of (rest_of es)))
 operands_of words.DeclareFun es =
     declare_fun (name_of (first_of es)) (place_of (first_of (rest_of es))) (sorts_of (parts_of (first_of (rest_of es)))) (close_of (first_of (rest_of es)))
@@ -180,11 +180,11 @@ operands_of words.Strings es = check_sat
 
 -- The tree of a list by the place of `(`, its head and the head's place, the expressions behind it, and the place of `)`.
 abbrev pub headed_tree : ℕ → Atom → ℕ → Expressions → ℕ → Tree
-headed_tree o (atom-word w) p es c = command o p (operands_of w es) c
-headed_tree o (atom-symbol bs) p es c = other o (record { bytes = bs; at = p }) es c
-headed_tree o (atom-keyword bs) p es c = command o p check_sat c
-headed_tree o (atom-numeral n) p es c = command o p check_sat c
-headed_tree o (atom-literal w v) p es c = command o p check_sat c
+headed_tree o (atom_word w) p es c = command o p (operands_of w es) c
+headed_tree o (atom_symbol bs) p es c = other o (record { bytes = bs; at = p }) es c
+headed_tree o (atom_keyword bs) p es c = command o p check_sat c
+headed_tree o (atom_numeral n) p es c = command o p check_sat c
+headed_tree o (atom_literal w v) p es c = command o p check_sat c
 
 abbrev pub tree_in : Expression → Tree
 tree_in (atom a p) = command p p check_sat p

@@ -12,7 +12,7 @@ use Rattle.grammar.specs.declared.signs.Sign.TheVariants.{Open, Close, Reserved,
 -- A token's content: a parenthesis, a reserved word, a symbol or keyword by its bytes, a number, or a literal's width and value.
 pub data Lexeme : Type 0 where
   open_list : Lexeme
-  close-list : Lexeme
+  close_list : Lexeme
   word : Word → Lexeme
   symbol : List ℕ → Lexeme
   keyword : List ℕ → Lexeme
@@ -33,7 +33,7 @@ symbol_or (Some w) bs = word w
 
 abbrev pub lexeme_of : Kind → List ℕ → Lexeme
 lexeme_of Opening bs = open_list
-lexeme_of Closing bs = close-list
+lexeme_of Closing bs = close_list
 lexeme_of Name bs = symbol_or (word_of bs) bs
 lexeme_of Keyword bs = keyword bs
 lexeme_of (Numeral n) bs = numeral n
@@ -52,7 +52,7 @@ symbol_sign bs = cond (same bs (codes "BitVec")) BitVec (cond (same bs (codes "n
 -- What a form sees of a token.
 abbrev pub sign : Lexeme → Sign
 sign open_list = Open
-sign close-list = Close
+sign close_list = Close
 sign (word w) = Reserved w
 sign (symbol bs) = symbol_sign bs
 sign (keyword bs) = Key

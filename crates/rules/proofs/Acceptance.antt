@@ -3,7 +3,7 @@ use Rattle.std.proofs.Common.{◌≡◌, ℕ, cond, ◌&&◌, ◌||◌, List, []
 use Rattle.std.proofs.lemmas.Bool.{ne_eqb, eq-eqb}
 use Rattle.rules.specs.Records.{Request, obeyed}
 use Rattle.rules.specs.Steps.{State, Given}
-use Rattle.rules.specs.Table.{Row, small_page, long-text, after-exit, unexpected_byte, broken_number, long-name, no_closed_list, nested_too_deep, outside_the_form, wrong-mode, unknown_logic, wrong-depth, numbered, applies, table, or_next, first, refusal, turned, is_exit, step}
+use Rattle.rules.specs.Table.{Row, small_page, long_text, after_exit, unexpected_byte, broken_number, long_name, no_closed_list, nested_too_deep, outside_the_form, wrong_mode, unknown_logic, wrong_depth, numbered, applies, table, or_next, first, refusal, turned, is_exit, step}
 use Rattle.rules.specs.Laws.{request}
 use Rattle.rules.proofs.Bridge.{learn-refused}
 
@@ -25,17 +25,17 @@ NoneOf (r ∷ rs) s g = (applies r s g ≡ None) × NoneOf rs s g
 
 not_zero : (r : Row) → numbered r ≡ 0 → ⊥
 not_zero small_page e = omega arith
-not_zero long-text e = omega arith
-not_zero after-exit e = omega arith
+not_zero long_text e = omega arith
+not_zero after_exit e = omega arith
 not_zero unexpected_byte e = omega arith
 not_zero broken_number e = omega arith
-not_zero long-name e = omega arith
+not_zero long_name e = omega arith
 not_zero no_closed_list e = omega arith
 not_zero nested_too_deep e = omega arith
 not_zero outside_the_form e = omega arith
-not_zero wrong-mode e = omega arith
+not_zero wrong_mode e = omega arith
 not_zero unknown_logic e = omega arith
-not_zero wrong-depth e = omega arith
+not_zero wrong_depth e = omega arith
 
 clear : (o : Option ℕ) (r : Row) (rest : ℕ × ℕ) → (or_next o (numbered r) rest).0 ≡ 0 → (o ≡ None) × (rest.0 ≡ 0)
 clear None r rest e = (refl, e)

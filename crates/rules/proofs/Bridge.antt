@@ -14,7 +14,7 @@ use Rattle.rules.specs.declared.Fault.{Fault}
 use Rattle.rules.specs.declared.Fault.TheVariants as faults
 use Rattle.rules.specs.declared.Said.{Said}
 use Rattle.rules.specs.declared.Reply.{Reply}
-use Rattle.rules.specs.Records.{Record, Request, set-logic, push, pop, reason, reset, exit, unsupported, request_of, through, reading, asked, obeyed}
+use Rattle.rules.specs.Records.{Record, Request, set_logic, push, pop, reason, reset, exit, unsupported, request_of, through, reading, asked, obeyed}
 use Rattle.rules.specs.Steps.{State, new_state, is_start, refused, changed, executed, acted_on, acted, Given, Answer, printed, spoken, Replied}
 use Rattle.rules.specs.Table.{misplaced, at_start, at_byte, at_number, at_name, at_list, at_nesting, at_form, at_logic, at_depth, or_next, refusal, word, complained, response, answer, turned, is_exit, learn, step}
 
@@ -40,9 +40,9 @@ abbrev pair_of : State × Result Said Fault → State × Answer
 pair_of x = (x.0, spoken x.1)
 
 core : (r : Record) (m : Mode) (q : Request) → outcome (live r m) q (chain (live r m) q) ≡ pair_of (executed (live r m) q)
-core r m (set-logic l p) = go (is_start m) l
+core r m (set_logic l p) = go (is_start m) l
   where
-    go : (b : Bool) (l : Option Logic) → outcome (live r m) (set-logic l p) (or_next (at_start (not b)) 30 (or_next (at_logic (set-logic l p)) 31 (0, 0))) ≡ pair_of (cond b (Rattle.rules.specs.Steps.logic_set (live r m) l p) (refused (live r m) faults.Mode))
+    go : (b : Bool) (l : Option Logic) → outcome (live r m) (set_logic l p) (or_next (at_start (not b)) 30 (or_next (at_logic (set_logic l p)) 31 (0, 0))) ≡ pair_of (cond b (Rattle.rules.specs.Steps.logic_set (live r m) l p) (refused (live r m) faults.Mode))
     go true None = refl
     go true (Some l) = refl
     go false None = refl

@@ -2,7 +2,7 @@
 use Rattle.std.proofs.Common.{◌≡◌, ℕ, suc, ◌+◌, ◌-◌, ◌<◌, Bool, true, false, not, ◌||◌, ltb, List, [], ◌∷◌, Some, None, sym, refl, ap, ◌∙◌, subst, ⊎_elim, true≢false, arith}
 use Rattle.std.proofs.lemmas.Bool.{cases_eq, ltb-false, le-ltb}
 use Rattle.rules.specs.declared.Mode.TheVariants.{Assert}
-use Rattle.rules.specs.Records.{Request, set-logic, push, pop, reason, reset, exit, unsupported, asked}
+use Rattle.rules.specs.Records.{Request, set_logic, push, pop, reason, reset, exit, unsupported, asked}
 use Rattle.rules.specs.Steps.{State, is_start, Given}
 use Rattle.rules.specs.Table.{misplaced, at_start, at_depth, at_logic, at_byte, at_number, at_name, at_list, at_nesting, at_form, refusal, step, run}
 use Rattle.rules.specs.Laws.{request, push_zero}
@@ -27,7 +27,7 @@ not_both true e f = true≢false e
 not_both false e f = true≢false f
 
 inside_moved : (o s : State) (q : Request) → Inside o s → o.stands.depth < (moved s q).stands.depth → misplaced s.mode q ≡ false → (q ≡ exit → ⊥) → Inside o (moved s q)
-inside_moved o s (set-logic l p) i a w x = absurd (not_both (is_start s.mode) i.going w)
+inside_moved o s (set_logic l p) i a w x = absurd (not_both (is_start s.mode) i.going w)
 inside_moved o s (push k p) i a w x = record { logic = i.logic; live = or_no _ i.live; going = refl; above = a }
 inside_moved o s (pop k p) i a w x = record { logic = i.logic; live = or_no _ i.live; going = refl; above = a }
 inside_moved o s reason i a w x = absurd (true≢false w)

@@ -13,7 +13,7 @@ use Rattle.rules.specs.declared.Fault.TheVariants.{Token, Form}
 -- What a command asks of a session.
 pub data Request : Type 0 where
   -- a logic, none where the name is unknown, and the name's place
-  set-logic : Option Logic → ℕ → Request
+  set_logic : Option Logic → ℕ → Request
   -- a numeral and its place
   push : ℕ → ℕ → Request
   pop : ℕ → ℕ → Request
@@ -35,7 +35,7 @@ info_of bs = cond (asks_reason bs) reason unsupported
 
 -- Declarations, assertions, checks and values are not built yet.
 abbrev pub request_of : List ℕ → Command → Request
-request_of text (SetLogic t) = set-logic (logic_of (bytes_of text t)) t.from
+request_of text (SetLogic t) = set_logic (logic_of (bytes_of text t)) t.from
 request_of text DeclareSort = unsupported
 request_of text DeclareFun = unsupported
 request_of text DeclareConst = unsupported
@@ -69,7 +69,7 @@ new_record = record { logic = None; depth = 0 }
 
 -- The record after an accepted request.
 abbrev pub obeyed : Record → Request → Record
-obeyed r (set-logic l p) = record { logic = l; depth = r.depth }
+obeyed r (set_logic l p) = record { logic = l; depth = r.depth }
 obeyed r (push k p) = record { logic = r.logic; depth = r.depth + k }
 obeyed r (pop k p) = record { logic = r.logic; depth = r.depth - k }
 obeyed r reason = r

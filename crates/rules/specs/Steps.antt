@@ -11,7 +11,7 @@ use Rattle.rules.specs.declared.Said.{Said}
 use Rattle.rules.specs.declared.Said.TheVariants.{Success, Unsupported}
 use Rattle.rules.specs.declared.Reply.{Reply}
 use Rattle.rules.specs.Refusals.{number_of, place_of}
-use Rattle.rules.specs.Records.{Record, new_record, Request, set-logic, push, pop, reason, reset, exit, unsupported, request_of, reading, obeyed}
+use Rattle.rules.specs.Records.{Record, new_record, Request, set_logic, push, pop, reason, reset, exit, unsupported, request_of, reading, obeyed}
 
 -- What stands, the mode, and whether an `exit` was accepted.
 pub record State : Type 0 where
@@ -37,7 +37,7 @@ changed s q = (record { stands = obeyed s.stands q; mode = Assert; ended = s.end
 
 abbrev pub logic_set : State → Option Logic → ℕ → State × Result Said Fault
 logic_set s None p = refused s (faults.Logic p)
-logic_set s (Some l) p = changed s (set-logic (Some l) p)
+logic_set s (Some l) p = changed s (set_logic (Some l) p)
 
 abbrev pub pushed : State → ℕ → ℕ → State × Result Said Fault
 pushed s k p = cond (nat_lt 63 (s.stands.depth + k)) (refused s (faults.Depth p)) (changed s (push k p))
@@ -47,7 +47,7 @@ popped s k p = cond (nat_lt s.stands.depth k) (refused s (faults.Depth p)) (chan
 
 -- A command in form, given in a mode.
 abbrev pub executed : State → Request → State × Result Said Fault
-executed s (set-logic l p) = cond (is_start s.mode) (logic_set s l p) (refused s faults.Mode)
+executed s (set_logic l p) = cond (is_start s.mode) (logic_set s l p) (refused s faults.Mode)
 executed s (push k p) = cond (is_start s.mode) (refused s faults.Mode) (pushed s k p)
 executed s (pop k p) = cond (is_start s.mode) (refused s faults.Mode) (popped s k p)
 executed s reason = refused s faults.Mode

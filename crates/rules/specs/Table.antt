@@ -9,37 +9,37 @@ use Rattle.rules.specs.declared.Mode.TheVariants.{Start, Assert}
 use Rattle.rules.specs.declared.Fault.{Fault}
 use Rattle.rules.specs.declared.Fault.TheVariants as faults
 use Rattle.rules.specs.declared.Said.TheVariants.{Success, Unsupported}
-use Rattle.rules.specs.Records.{Request, set-logic, push, pop, reason, reset, exit, unsupported, reading, asked, feed}
+use Rattle.rules.specs.Records.{Request, set_logic, push, pop, reason, reset, exit, unsupported, reading, asked, feed}
 use Rattle.rules.specs.Steps.{State, new_state, is_start, Given, Answer, printed}
 
 -- The rows, in the order in which they are tried.
 pub data Row : Type 0 where
   small_page : Row
-  long-text : Row
-  after-exit : Row
+  long_text : Row
+  after_exit : Row
   unexpected_byte : Row
   broken_number : Row
-  long-name : Row
+  long_name : Row
   no_closed_list : Row
   nested_too_deep : Row
   outside_the_form : Row
-  wrong-mode : Row
+  wrong_mode : Row
   unknown_logic : Row
-  wrong-depth : Row
+  wrong_depth : Row
 
 abbrev pub numbered : Row → ℕ
 numbered small_page = 1
-numbered long-text = 2
-numbered after-exit = 3
+numbered long_text = 2
+numbered after_exit = 3
 numbered unexpected_byte = 10
 numbered broken_number = 12
-numbered long-name = 13
+numbered long_name = 13
 numbered no_closed_list = 20
 numbered nested_too_deep = 21
 numbered outside_the_form = 22
-numbered wrong-mode = 30
+numbered wrong_mode = 30
 numbered unknown_logic = 31
-numbered wrong-depth = 32
+numbered wrong_depth = 32
 
 -- At the text's start where the test holds.
 abbrev pub at_start : Bool → Option ℕ
@@ -126,7 +126,7 @@ at_form (Err (faults.Depth p)) = None
 
 -- What the mode doesn't allow: a logic only in start, push and pop not in start, a reason never before the first check.
 abbrev pub misplaced : Mode → Request → Bool
-misplaced m (set-logic l p) = not (is_start m)
+misplaced m (set_logic l p) = not (is_start m)
 misplaced m (push k p) = is_start m
 misplaced m (pop k p) = is_start m
 misplaced m reason = true
@@ -135,8 +135,8 @@ misplaced m exit = false
 misplaced m unsupported = false
 
 abbrev pub at_logic : Request → Option ℕ
-at_logic (set-logic None p) = Some p
-at_logic (set-logic (Some l) p) = None
+at_logic (set_logic None p) = Some p
+at_logic (set_logic (Some l) p) = None
 at_logic (push k p) = None
 at_logic (pop k p) = None
 at_logic reason = None
@@ -146,7 +146,7 @@ at_logic unsupported = None
 
 -- A push beyond depth 63, or a pop above the depth.
 abbrev pub at_depth : ℕ → Request → Option ℕ
-at_depth d (set-logic l p) = None
+at_depth d (set_logic l p) = None
 at_depth d (push k p) = cond (nat_lt 63 (d + k)) (Some p) None
 at_depth d (pop k p) = cond (nat_lt d k) (Some p) None
 at_depth d reason = None
@@ -157,20 +157,20 @@ at_depth d unsupported = None
 -- The place at which a row refuses a command; none where it doesn't apply.
 abbrev pub applies : Row → State → Given → Option ℕ
 applies small_page s g = at_start (nat_lt g.room 8192)
-applies long-text s g = at_start (nat_lt 4096 (length g.text))
-applies after-exit s g = at_start s.ended
+applies long_text s g = at_start (nat_lt 4096 (length g.text))
+applies after_exit s g = at_start s.ended
 applies unexpected_byte s g = at_byte (reading g.text)
 applies broken_number s g = at_number (reading g.text)
-applies long-name s g = at_name (reading g.text)
+applies long_name s g = at_name (reading g.text)
 applies no_closed_list s g = at_list (reading g.text)
 applies nested_too_deep s g = at_nesting (reading g.text)
 applies outside_the_form s g = at_form (reading g.text)
-applies wrong-mode s g = at_start (misplaced s.mode (asked g.text (reading g.text)))
+applies wrong_mode s g = at_start (misplaced s.mode (asked g.text (reading g.text)))
 applies unknown_logic s g = at_logic (asked g.text (reading g.text))
-applies wrong-depth s g = at_depth s.stands.depth (asked g.text (reading g.text))
+applies wrong_depth s g = at_depth s.stands.depth (asked g.text (reading g.text))
 
 abbrev pub table : List Row
-table = small_page ∷ long-text ∷ after-exit ∷ unexpected_byte ∷ broken_number ∷ long-name ∷ no_closed_list ∷ nested_too_deep ∷ outside_the_form ∷ wrong-mode ∷ unknown_logic ∷ wrong-depth ∷ []
+table = small_page ∷ long_text ∷ after_exit ∷ unexpected_byte ∷ broken_number ∷ long_name ∷ no_closed_list ∷ nested_too_deep ∷ outside_the_form ∷ wrong_mode ∷ unknown_logic ∷ wrong_depth ∷ []
 
 abbrev pub or_next : Option ℕ → ℕ → ℕ × ℕ → ℕ × ℕ
 or_next None n rest = rest
@@ -186,7 +186,7 @@ refusal s g = first table s g
 
 -- What an accepted request prints.
 abbrev pub word : Request → List ℕ
-word (set-logic l p) = printed Success
+word (set_logic l p) = printed Success
 word (push k p) = printed Success
 word (pop k p) = printed Success
 word reason = []
@@ -206,7 +206,7 @@ answer s g = record { number = (refusal s g).0; place = (refusal s g).1; bytes =
 
 -- The mode after an accepted request.
 abbrev pub turned : Mode → Request → Mode
-turned m (set-logic l p) = Assert
+turned m (set_logic l p) = Assert
 turned m (push k p) = Assert
 turned m (pop k p) = Assert
 turned m reason = m
@@ -215,7 +215,7 @@ turned m exit = m
 turned m unsupported = m
 
 abbrev pub is_exit : Request → Bool
-is_exit (set-logic l p) = false
+is_exit (set_logic l p) = false
 is_exit (push k p) = false
 is_exit (pop k p) = false
 is_exit reason = false

@@ -6,7 +6,7 @@ ghost use Rattle.page.specs.Pages.{Wrote};
 ghost use Rattle.tokens.specs.Lexing.{bytes_of};
 ghost use Rattle.rules.specs.declared.Mode.TheVariants.{Assert};
 ghost use Rattle.rules.specs.declared.Said.TheVariants.{Success};
-ghost use Rattle.rules.specs.Records.{logic_of, asks_reason, info_of, reading, request_of, set-logic, push, pop, reason, reset, exit, unsupported};
+ghost use Rattle.rules.specs.Records.{logic_of, asks_reason, info_of, reading, request_of, set_logic, push, pop, reason, reset, exit, unsupported};
 ghost use Rattle.rules.specs.Steps.{State, new_state, logic_set, pushed, popped, executed, acted, printed, spoken, Replied};
 ghost use Rattle.rules.specs.Table.{answer, step, session};
 ghost use Rattle.rules.specs.Laws.{Laws, InTurn};

@@ -1,7 +1,7 @@
 -- Reading the sorts of a declaration token by token gives what the trees say.
 use Rattle.std.proofs.Common.{◌≡◌, ℕ, List, [], ◌∷◌, ◌++◌, length, Some, None, Ok, Err, Option, Result, sym, refl, ap, ◌∙◌, subst, append_assoc}
 use Rattle.std.proofs.lemmas.List.{append-nil, take_at, get_or_push}
-use Rattle.grammar.specs.Marks.{Mark, mark, close-list}
+use Rattle.grammar.specs.Marks.{Mark, mark, close_list}
 use Rattle.forms.specs.Syntax as syntax
 use Rattle.forms.specs.Syntax.{spell_sort, spell_sorts}
 use Rattle.theory.specs.declared.Sort.{Sort}
@@ -18,7 +18,7 @@ module _ (σ : Scope) where
   -- one sort, at any stage
   sort-read : (k : syntax.SortName) (ss : List Sort) (a : Option ℕ) (ms : List Mark)
       → read σ (listed ss None a) (spell_sort k ++ ms) ≡ after (after (sort_of σ k) (checked a (sort_start k))) (λ x. read σ (listed (ss ++ (x ∷ [])) None a) ms)
-  sort-read (syntax.sort-symbol n) ss a ms = go (found (sort_named σ n.bytes) n.at)
+  sort-read (syntax.sort_symbol n) ss a ms = go (found (sort_named σ n.bytes) n.at)
     where
       one : (r : Result Sort SortFault) → after (after r (λ x. Ok (listed (ss ++ (x ∷ [])) None a))) (λ t. read σ t ms) ≡ after r (λ x. read σ (listed (ss ++ (x ∷ [])) None a) ms)
       one (Ok x) = refl
@@ -29,11 +29,11 @@ module _ (σ : Scope) where
       go (Err e) = refl
   sort-read (syntax.bit_vectors o u b w c) ss a ms = go (bits_at σ.logic w.value o)
     where
-      one : (r : Result Sort SortFault) → after (after r (λ x. Ok (listed (ss ++ (x ∷ [])) (Some o) a))) (λ t. read σ t (mark close-list c ∷ ms)) ≡ after r (λ x. read σ (listed (ss ++ (x ∷ [])) None a) ms)
+      one : (r : Result Sort SortFault) → after (after r (λ x. Ok (listed (ss ++ (x ∷ [])) (Some o) a))) (λ t. read σ t (mark close_list c ∷ ms)) ≡ after r (λ x. read σ (listed (ss ++ (x ∷ [])) None a) ms)
       one (Ok x) = refl
       one (Err e) = refl
 
-      go : (r : Result Sort SortFault) → after (after r (added (listed ss (Some o) a) o)) (λ t. read σ t (mark close-list c ∷ ms)) ≡ after (after r (checked a o)) (λ x. read σ (listed (ss ++ (x ∷ [])) None a) ms)
+      go : (r : Result Sort SortFault) → after (after r (added (listed ss (Some o) a) o)) (λ t. read σ t (mark close_list c ∷ ms)) ≡ after (after r (checked a o)) (λ x. read σ (listed (ss ++ (x ∷ [])) None a) ms)
       go (Ok x) = one (checked a o x)
       go (Err e) = refl
 
@@ -54,28 +54,28 @@ module _ (σ : Scope) where
 
   -- the result, and the closing parenthesis of the command
   result-read : (k : syntax.SortName) (xs : List Sort) (n c : ℕ)
-      → read σ (listed xs None (Some n)) (spell_sort k ++ (mark close-list c ∷ [])) ≡ after (sort_of σ k) (λ x. Ok (listed (xs ++ (x ∷ [])) None (Some n)))
-  result-read k xs n c = sort-read k xs (Some n) (mark close-list c ∷ []) ∙ go (sort_of σ k)
+      → read σ (listed xs None (Some n)) (spell_sort k ++ (mark close_list c ∷ [])) ≡ after (sort_of σ k) (λ x. Ok (listed (xs ++ (x ∷ [])) None (Some n)))
+  result-read k xs n c = sort-read k xs (Some n) (mark close_list c ∷ []) ∙ go (sort_of σ k)
     where
-      go : (r : Result Sort SortFault) → after (after r (checked (Some n) (sort_start k))) (λ x. read σ (listed (xs ++ (x ∷ [])) None (Some n)) (mark close-list c ∷ [])) ≡ after r (λ x. Ok (listed (xs ++ (x ∷ [])) None (Some n)))
+      go : (r : Result Sort SortFault) → after (after r (checked (Some n) (sort_start k))) (λ x. read σ (listed (xs ++ (x ∷ [])) None (Some n)) (mark close_list c ∷ [])) ≡ after r (λ x. Ok (listed (xs ++ (x ∷ [])) None (Some n)))
       go (Ok x) = refl
       go (Err e) = refl
 
   -- arguments and result of `declare_fun`, behind the parenthesis that opens the arguments
   pub function-read : (ks : List syntax.SortName) (k : syntax.SortName) (q c : ℕ)
-      → read σ (listed [] None None) ((spell_sorts ks ++ (mark close-list q ∷ spell_sort k)) ++ (mark close-list c ∷ []))
+      → read σ (listed [] None None) ((spell_sorts ks ++ (mark close_list q ∷ spell_sort k)) ++ (mark close_list c ∷ []))
       ≡ after (arguments_of σ ks) (λ xs. after (sort_of σ k) (λ x. Ok (listed (xs ++ (x ∷ [])) None (Some (length xs)))))
   function-read ks k q c =
-      ap (read σ (listed [] None None)) (append_assoc (spell_sorts ks) (mark close-list q ∷ spell_sort k) (mark close-list c ∷ []))
-      ∙ arguments-read ks [] (mark close-list q ∷ (spell_sort k ++ (mark close-list c ∷ [])))
+      ap (read σ (listed [] None None)) (append_assoc (spell_sorts ks) (mark close_list q ∷ spell_sort k) (mark close_list c ∷ []))
+      ∙ arguments-read ks [] (mark close_list q ∷ (spell_sort k ++ (mark close_list c ∷ [])))
       ∙ after_same (arguments_of σ ks)
-      (λ xs. read σ (listed xs None None) (mark close-list q ∷ (spell_sort k ++ (mark close-list c ∷ []))))
+      (λ xs. read σ (listed xs None None) (mark close_list q ∷ (spell_sort k ++ (mark close_list c ∷ []))))
       (λ xs. after (sort_of σ k) (λ x. Ok (listed (xs ++ (x ∷ [])) None (Some (length xs)))))
       (λ xs. result-read k xs (length xs) c)
 
   -- the sort of `declare_const`
   pub constant-read : (k : syntax.SortName) (c : ℕ)
-      → read σ (listed [] None (Some 0)) (spell_sort k ++ (mark close-list c ∷ [])) ≡ after (sort_of σ k) (λ x. Ok (listed (x ∷ []) None (Some 0)))
+      → read σ (listed [] None (Some 0)) (spell_sort k ++ (mark close_list c ∷ [])) ≡ after (sort_of σ k) (λ x. Ok (listed (x ∷ []) None (Some 0)))
   constant-read k c = result-read k [] 0 c
 
 -- the function that was read, or the fault

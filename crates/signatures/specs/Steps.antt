@@ -1,7 +1,7 @@
 -- The sorts of a declaration read token by token: those of the arguments, a closing parenthesis, and the result's.
 use Rattle.std.specs.Prelude.{◌≡◌, ℕ, Bool, true, false, cond, List, [], ◌∷◌, ◌++◌, length, get_or, take, Some, None, Ok, Err, Option, Result}
 use Rattle.words.specs.Words.{spelling}
-use Rattle.grammar.specs.Marks.{Mark, Lexeme, open_list, close-list, word, symbol, keyword, numeral, literal}
+use Rattle.grammar.specs.Marks.{Mark, Lexeme, open_list, close_list, word, symbol, keyword, numeral, literal}
 use Rattle.theory.specs.declared.Sort.{Sort}
 use Rattle.theory.specs.declared.Sort.TheVariants as sorts
 use Rattle.terms.specs.declared.SortFault.{SortFault}
@@ -45,7 +45,7 @@ closed s (Some o) = listed s.sorts None s.arity
 
 abbrev pub says : Scope → Listed → Lexeme → ℕ → Result Listed SortFault
 says σ s open_list p = Ok (listed s.sorts (Some p) s.arity)
-says σ s close-list p = Ok (closed s s.bits)
+says σ s close_list p = Ok (closed s s.bits)
 says σ s (word w) p = named σ s s.bits (spelling w) p
 says σ s (symbol bs) p = named σ s s.bits bs p
 says σ s (keyword bs) p = Ok s

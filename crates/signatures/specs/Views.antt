@@ -1,6 +1,6 @@
 -- What the reader of a declaration's sorts shows.
 use Rattle.std.specs.Prelude.{◌≡◌, ℕ, cond, List, [], ◌∷◌, ◌++◌, length, take, Some, None, Ok, Err, Option, Result, nat_le, slice_index_or}
-use Rattle.grammar.specs.Marks.{Mark, mark, close-list}
+use Rattle.grammar.specs.Marks.{Mark, mark, close_list}
 use Rattle.forms.specs.Syntax as syntax
 use Rattle.forms.specs.Syntax.{spell_sort, spell_sorts}
 use Rattle.theory.specs.declared.Sort.{Sort}
@@ -35,8 +35,8 @@ few_arguments f = cond (nat_le (length f.arguments) 4) (Some f) None
 -- Whatever sorts the tokens spell, those were read: of a function behind the parenthesis that opens its arguments, or of a constant behind its name.
 pub record Follows (σ : Scope) (ms : List Mark) (a : Option ℕ) (r : Result (Unit {0}) SortFault) (l : Listed) : Type 0 where
   pub function : (n : List ℕ) (ks : List syntax.SortName) (k : syntax.SortName) (q c : ℕ) → a ≡ None
-      → ms ≡ (spell_sorts ks ++ (mark close-list q ∷ spell_sort k)) ++ (mark close-list c ∷ [])
+      → ms ≡ (spell_sorts ks ++ (mark close_list q ∷ spell_sort k)) ++ (mark close_list c ∷ [])
       → function_of σ n ks k ≡ placed r (function_in n l)
   pub constant : (n : List ℕ) (k : syntax.SortName) (c : ℕ) → a ≡ Some 0
-      → ms ≡ spell_sort k ++ (mark close-list c ∷ [])
+      → ms ≡ spell_sort k ++ (mark close_list c ∷ [])
       → function_of σ n [] k ≡ placed r (function_in n l)

@@ -1,7 +1,7 @@
 -- Reading token by token gives what the trees say.
 use Rattle.std.proofs.Common.{◌≡◌, ℕ, ◌+◌, Bool, true, false, cond, List, [], ◌∷◌, ◌++◌, length, take, drop, Some, None, Ok, Err, Option, Result, sym, refl, ap, ◌∙◌, subst, append_assoc}
 use Rattle.std.proofs.lemmas.List.{append-nil, take_at, drop_at, length-append}
-use Rattle.grammar.specs.Marks.{Mark, mark, open_list, close-list, symbol}
+use Rattle.grammar.specs.Marks.{Mark, mark, open_list, close_list, symbol}
 use Rattle.forms.specs.Syntax as syntax
 use Rattle.forms.proofs.Accepts.{inner}
 use Rattle.forms.specs.Syntax.{spell_term, spell_terms, symbol_mark}
@@ -41,7 +41,7 @@ even_push s x e = length-append s.terms (x.term ∷ []) ∙ ap (λ n. n + 1) e �
 module _ (σ : Scope) where
   -- the closing parenthesis of an application whose operands are xs
   close-read : (s : Pending) (h : Head) (p : ℕ) (xs : List Typed) (c : ℕ) (ms : List Mark) → Even s
-      → read σ (pushed_all (opened s h p) xs) (mark close-list c ∷ ms) ≡ after (applied σ h p (sorts_in xs) (terms_in xs)) (λ x. read σ (pushed s x) ms)
+      → read σ (pushed_all (opened s h p) xs) (mark close_list c ∷ ms) ≡ after (applied σ h p (sorts_in xs) (terms_in xs)) (λ x. read σ (pushed s x) ms)
   close-read s h p xs c ms e =
       let n = length s.sorts in
       let a = drop_at s.sorts (sorts_in xs) n refl in
@@ -63,42 +63,42 @@ module _ (σ : Scope) where
 
   -- the parts of an application and its closing parenthesis, by what is known of the parts
   parts-read : (t : syntax.Term) (ts : syntax.Terms) (s : Pending) (h : Head) (p c : ℕ) (ms : List Mark) → Even s
-      → read σ (opened s h p) (spell_term t ++ (spell_terms ts ++ (mark close-list c ∷ ms))) ≡ after (sorted σ t) (λ x. read σ (pushed (opened s h p) x) (spell_terms ts ++ (mark close-list c ∷ ms)))
-      → ((x : Typed) → read σ (pushed (opened s h p) x) (spell_terms ts ++ (mark close-list c ∷ ms)) ≡ after (sorted_all σ ts) (λ xs. read σ (pushed_all (pushed (opened s h p) x) xs) (mark close-list c ∷ ms)))
-      → read σ (opened s h p) (spell_term t ++ (spell_terms ts ++ (mark close-list c ∷ ms)))
+      → read σ (opened s h p) (spell_term t ++ (spell_terms ts ++ (mark close_list c ∷ ms))) ≡ after (sorted σ t) (λ x. read σ (pushed (opened s h p) x) (spell_terms ts ++ (mark close_list c ∷ ms)))
+      → ((x : Typed) → read σ (pushed (opened s h p) x) (spell_terms ts ++ (mark close_list c ∷ ms)) ≡ after (sorted_all σ ts) (λ xs. read σ (pushed_all (pushed (opened s h p) x) xs) (mark close_list c ∷ ms)))
+      → read σ (opened s h p) (spell_term t ++ (spell_terms ts ++ (mark close_list c ∷ ms)))
       ≡ after (after (sorted σ t) (λ x. after (sorted_all σ ts) (λ xs. applied σ h p (x.sort ∷ sorts_in xs) (x.term ∷ terms_in xs)))) (λ y. read σ (pushed s y) ms)
   parts-read t ts s h p c ms v first rest =
       first
       ∙ after_same (sorted σ t)
-      (λ x. read σ (pushed (opened s h p) x) (spell_terms ts ++ (mark close-list c ∷ ms)))
+      (λ x. read σ (pushed (opened s h p) x) (spell_terms ts ++ (mark close_list c ∷ ms)))
       (λ x. after (after (sorted_all σ ts) (λ xs. applied σ h p (x.sort ∷ sorts_in xs) (x.term ∷ terms_in xs))) (λ y. read σ (pushed s y) ms))
       (λ x.
       rest x
       ∙ after_same (sorted_all σ ts)
-      (λ xs. read σ (pushed_all (pushed (opened s h p) x) xs) (mark close-list c ∷ ms))
+      (λ xs. read σ (pushed_all (pushed (opened s h p) x) xs) (mark close_list c ∷ ms))
       (λ xs. after (applied σ h p (x.sort ∷ sorts_in xs) (x.term ∷ terms_in xs)) (λ y. read σ (pushed s y) ms))
-      (λ xs. ap (λ q. read σ q (mark close-list c ∷ ms)) (all_more (opened s h p) x xs) ∙ close-read s h p (x ∷ xs) c ms v)
+      (λ xs. ap (λ q. read σ q (mark close_list c ∷ ms)) (all_more (opened s h p) x xs) ∙ close-read s h p (x ∷ xs) c ms v)
       ∙ sym (after-after (sorted_all σ ts) (λ xs. applied σ h p (x.sort ∷ sorts_in xs) (x.term ∷ terms_in xs)) (λ y. read σ (pushed s y) ms)))
       ∙ sym (after-after (sorted σ t) (λ x. after (sorted_all σ ts) (λ xs. applied σ h p (x.sort ∷ sorts_in xs) (x.term ∷ terms_in xs))) (λ y. read σ (pushed s y) ms))
 
   mutual
     pub term-read : (t : syntax.Term) (s : Pending) (ms : List Mark) → s.head ≡ false → Even s
         → read σ s (spell_term t ++ ms) ≡ after (sorted σ t) (λ x. read σ (pushed s x) ms)
-    term-read (syntax.term-symbol n) s ms e v = symbol-read s n.bytes n.at s.head (λ t. read σ t ms) e
+    term-read (syntax.term_symbol n) s ms e v = symbol-read s n.bytes n.at s.head (λ t. read σ t ms) e
     term-read (syntax.constant w k p) s ms e v = after_made (literal_at σ w k p) (pushed s) (λ t. read σ t ms)
     term-read (syntax.apply o f t ts c) s ms e v =
-        ap (λ l. read σ s (mark open_list o ∷ (symbol_mark f ∷ l))) (inner (spell_term t) (spell_terms ts) (mark close-list c) ms)
-        ∙ after_made (found (head_of σ f.bytes) f.at) (λ h. opened s h f.at) (λ q. read σ q (spell_term t ++ (spell_terms ts ++ (mark close-list c ∷ ms))))
+        ap (λ l. read σ s (mark open_list o ∷ (symbol_mark f ∷ l))) (inner (spell_term t) (spell_terms ts) (mark close_list c) ms)
+        ∙ after_made (found (head_of σ f.bytes) f.at) (λ h. opened s h f.at) (λ q. read σ q (spell_term t ++ (spell_terms ts ++ (mark close_list c ∷ ms))))
         ∙ after_same (found (head_of σ f.bytes) f.at)
-        (λ h. read σ (opened s h f.at) (spell_term t ++ (spell_terms ts ++ (mark close-list c ∷ ms))))
+        (λ h. read σ (opened s h f.at) (spell_term t ++ (spell_terms ts ++ (mark close_list c ∷ ms))))
         (λ h. after (after (sorted σ t) (λ x. after (sorted_all σ ts) (λ xs. applied σ h f.at (x.sort ∷ sorts_in xs) (x.term ∷ terms_in xs)))) (λ y. read σ (pushed s y) ms))
-        (λ h. parts-read t ts s h f.at c ms v (term-read t (opened s h f.at) (spell_terms ts ++ (mark close-list c ∷ ms)) refl v) (λ x. terms-read ts (pushed (opened s h f.at) x) (mark close-list c ∷ ms) refl (even_push (opened s h f.at) x v)))
+        (λ h. parts-read t ts s h f.at c ms v (term-read t (opened s h f.at) (spell_terms ts ++ (mark close_list c ∷ ms)) refl v) (λ x. terms-read ts (pushed (opened s h f.at) x) (mark close_list c ∷ ms) refl (even_push (opened s h f.at) x v)))
         ∙ sym (after-after (found (head_of σ f.bytes) f.at) (λ h. after (sorted σ t) (λ x. after (sorted_all σ ts) (λ xs. applied σ h f.at (x.sort ∷ sorts_in xs) (x.term ∷ terms_in xs)))) (λ y. read σ (pushed s y) ms))
 
     pub terms-read : (ts : syntax.Terms) (s : Pending) (ms : List Mark) → s.head ≡ false → Even s
         → read σ s (spell_terms ts ++ ms) ≡ after (sorted_all σ ts) (λ xs. read σ (pushed_all s xs) ms)
     terms-read syntax.no_terms s ms e v = ap (λ q. read σ q ms) ((λ i. record { sorts = s.sorts; terms = s.terms; frames = s.frames; head = e i }) ∙ sym (all_none s))
-    terms-read (syntax.more-terms t ts) s ms e v =
+    terms-read (syntax.more_terms t ts) s ms e v =
         ap (read σ s) (append_assoc (spell_term t) (spell_terms ts) ms)
         ∙ term-read t s (spell_terms ts ++ ms) e v
         ∙ after_same (sorted σ t)

@@ -1,7 +1,7 @@
 -- Terms read token by token, with a stack of operands and one of open applications.
 use Rattle.std.specs.Prelude.{◌≡◌, ℕ, Bool, true, false, cond, List, [], ◌∷◌, ◌++◌, length, take, drop, Ok, Err, Result}
 use Rattle.words.specs.Words.{spelling}
-use Rattle.grammar.specs.Marks.{Mark, Lexeme, open_list, close-list, word, symbol, keyword, numeral, literal}
+use Rattle.grammar.specs.Marks.{Mark, Lexeme, open_list, close_list, word, symbol, keyword, numeral, literal}
 use Rattle.theory.specs.declared.Sort.{Sort}
 use Rattle.theory.specs.declared.Head.{Head}
 use Rattle.terms.specs.declared.SortFault.{SortFault}
@@ -52,7 +52,7 @@ named σ s bs p =
 
 abbrev pub says : Scope → Pending → Lexeme → ℕ → Result Pending SortFault
 says σ s open_list p = Ok (opening s)
-says σ s close-list p = closed σ s s.frames
+says σ s close_list p = closed σ s s.frames
 says σ s (word w) p = named σ s (spelling w) p
 says σ s (symbol bs) p = named σ s bs p
 says σ s (keyword bs) p = Ok s

@@ -97,10 +97,10 @@ counts_in s = record { sorts = length s.sorts.rows; functions = length s.functio
 -- Terms and parts behind the counts c are provisional: they belong to a command that is being read.
 pub record Provisional (s : Stored) (c : Counts) : Type 0 where
   -- as many levels in each table
-  pub depth-functions : depth s.functions ≡ depth s.sorts
-  pub depth-terms : depth s.terms ≡ depth s.sorts
-  pub depth-parts : depth s.parts ≡ depth s.sorts
-  pub depth-assertions : depth s.assertions ≡ depth s.sorts
+  pub depth_functions : depth s.functions ≡ depth s.sorts
+  pub depth_terms : depth s.terms ≡ depth s.sorts
+  pub depth_parts : depth s.parts ≡ depth s.sorts
+  pub depth_assertions : depth s.assertions ≡ depth s.sorts
   -- no provisional row is older than a level
   pub level_terms : (i : ℕ) → i < depth s.terms → slice_index s.terms.levels i ≤ c.terms
   pub level_parts : (i : ℕ) → i < depth s.parts → slice_index s.parts.levels i ≤ c.parts
@@ -109,12 +109,12 @@ pub record Provisional (s : Stored) (c : Counts) : Type 0 where
   pub rest : Whole s c.terms c.parts (length s.assertions.rows)
   pub few : c.terms ≤ 1024
   -- the rows behind the counts
-  pub terms-more : c.terms ≤ length s.terms.rows
+  pub terms_more : c.terms ≤ length s.terms.rows
   pub parts_more : c.parts ≤ length s.parts.rows
   pub within : Within (length s.parts.rows) s.terms.rows
-  pub sorts-same : c.sorts ≡ length s.sorts.rows
-  pub functions-same : c.functions ≡ length s.functions.rows
-  pub assertions-same : c.assertions ≡ length s.assertions.rows
+  pub sorts_same : c.sorts ≡ length s.sorts.rows
+  pub functions_same : c.functions ≡ length s.functions.rows
+  pub assertions_same : c.assertions ≡ length s.assertions.rows
 
 -- ## What the operations do
 

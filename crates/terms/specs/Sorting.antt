@@ -72,7 +72,7 @@ terms_in (x ∷ xs) = x.term ∷ terms_in xs
 
 abbrev mutual
   pub sorted : Scope → syntax.Term → Result Typed SortFault
-  sorted s (syntax.term-symbol n) = after (found (head_of s n.bytes) n.at) (λ h. applied s h n.at [] [])
+  sorted s (syntax.term_symbol n) = after (found (head_of s n.bytes) n.at) (λ h. applied s h n.at [] [])
   sorted s (syntax.constant w v p) = literal_at s w v p
   sorted s (syntax.apply o f t ts c) =
       after (found (head_of s f.bytes) f.at) (λ h.
@@ -82,11 +82,11 @@ abbrev mutual
 
   pub sorted_all : Scope → syntax.Terms → Result (List Typed) SortFault
   sorted_all s syntax.no_terms = Ok []
-  sorted_all s (syntax.more-terms t ts) = after (sorted s t) (λ x. after (sorted_all s ts) (λ xs. Ok (x ∷ xs)))
+  sorted_all s (syntax.more_terms t ts) = after (sorted s t) (λ x. after (sorted_all s ts) (λ xs. Ok (x ∷ xs)))
 
 -- The place of a term's first token.
 abbrev pub start_of : syntax.Term → ℕ
-start_of (syntax.term-symbol n) = n.at
+start_of (syntax.term_symbol n) = n.at
 start_of (syntax.constant w v p) = p
 start_of (syntax.apply o f t ts c) = o
 
@@ -99,11 +99,11 @@ assertable s t = after (sorted s t) (bool_at (start_of t))
 
 -- The sort that is written so.
 abbrev pub sort_of : Scope → syntax.SortName → Result Sort SortFault
-sort_of s (syntax.sort-symbol n) = found (sort_named s n.bytes) n.at
+sort_of s (syntax.sort_symbol n) = found (sort_named s n.bytes) n.at
 sort_of s (syntax.bit_vectors o u b w c) = bits_at s.logic w.value o
 
 abbrev pub sort_start : syntax.SortName → ℕ
-sort_start (syntax.sort-symbol n) = n.at
+sort_start (syntax.sort_symbol n) = n.at
 sort_start (syntax.bit_vectors o u b w c) = o
 
 abbrev pub argument_at : ℕ → Sort → Result Sort SortFault
