@@ -1,10 +1,10 @@
 -- What the record of the tables shows, row by row.
-use Rattle.std.proofs.Common.{◌≡◌, ℕ, List, [], ◌∷◌, map, refl, ap, ◌∙◌}
+use Rattle.std.proofs.Common.{◌≡◌, List, [], ◌∷◌, map, refl, ap, ◌∙◌}
 use Rattle.scopes.specs.Stacks.{Scoped}
 use Rattle.scopes.specs.Depths.{Deep, deep, map_deep}
 use Rattle.scopes.proofs.Depths.{items-deep}
 use Rattle.tables.specs.Stores.{Stored, name_in, function_in, record_in}
-use Rattle.terms.specs.Records.{Function, items}
+use Rattle.terms.specs.Records.{items}
 
 module _ {A B : Type 0} (f : A → B) where
   items-map_deep : (xs : List (Deep A)) → items (map_deep f xs) ≡ map f (items xs)

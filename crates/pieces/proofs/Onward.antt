@@ -5,32 +5,32 @@ use Rattle.chars.specs.Runs.{gap}
 use Rattle.chars.specs.Gaps.{Skipped}
 use Rattle.chars.proofs.GapSpelt.{gap_skipped}
 use Rattle.pieces.specs.declared.Piece.{Piece}
-use Rattle.pieces.specs.Cuts.{piece_length, piece_at, piece, Within, cut_off, cut_up_lem, pieces, pieces_from, text_of, Next}
+use Rattle.pieces.specs.Cuts.{piece_length, piece_at, piece, Within, cut_off, cut_up, pieces, pieces_from, text_of, Next}
 use Rattle.pieces.proofs.Atoms.{Piecewise, piecewise}
 use Rattle.pieces.proofs.CutLaw.{cut_up_lem, cut-only}
 
 -- any bound that is large enough gives all pieces
-enough : (n : ℕ) (s : List ℕ) → length s ≤ n → pieces s ≡ cut_up_lem n s
+enough : (n : ℕ) (s : List ℕ) → length s ≤ n → pieces s ≡ cut_up n s
 unfolding pieces
-enough n s h = cut-only (cut_up_lem (length s) s) n s h (cut_up_lem (length s) s (omega arith))
+enough n s h = cut-only (cut_up (length s) s) n s h (cut_up_lem (length s) s (omega arith))
 
 cut-some : (next : List ℕ → List (List ℕ)) (q : List ℕ) → 0 < length q → cut_off next q ≡ take (piece_length q) q ∷ next (drop (piece_length q) q)
 cut-some next [] h = absurd (omega arith)
 cut-some next (b ∷ q) h = refl
 
 -- the pieces from a place, by the first one behind its gap
-from_gap : (script : List ℕ) (at : ℕ) → pieces_from script at ≡ cut_off (cut_up_lem (length script)) (drop (at + gap false (drop at script)) script)
+from_gap : (script : List ℕ) (at : ℕ) → pieces_from script at ≡ cut_off (cut_up (length script)) (drop (at + gap false (drop at script)) script)
 from_gap script at =
     enough (suc (length script)) (drop at script) (omega (arith, length-drop at script))
-    ∙ ap (cut_off (cut_up_lem (length script))) (drop-drop (gap false (drop at script)) at script)
+    ∙ ap (cut_off (cut_up (length script))) (drop-drop (gap false (drop at script)) at script)
 
 from_here : (script : List ℕ) (from l : ℕ) → from < length script → l ≡ piece_length (drop from script)
-    → cut_off (cut_up_lem (length script)) (drop from script) ≡ take (from + l - from) (drop from script) ∷ pieces_from script (from + l)
+    → cut_off (cut_up (length script)) (drop from script) ≡ take (from + l - from) (drop from script) ∷ pieces_from script (from + l)
 from_here script from l h e =
     let k : from + l - from ≡ l = omega arith in
-    cut-some (cut_up_lem (length script)) (drop from script) (omega (arith, length-drop from script))
-    ∙ ap (λ j. take j (drop from script) ∷ cut_up_lem (length script) (drop j (drop from script))) (sym e)
-    ∙ ap (λ z. take l (drop from script) ∷ cut_up_lem (length script) z) (drop-drop l from script)
+    cut-some (cut_up (length script)) (drop from script) (omega (arith, length-drop from script))
+    ∙ ap (λ j. take j (drop from script) ∷ cut_up (length script) (drop j (drop from script))) (sym e)
+    ∙ ap (λ z. take l (drop from script) ∷ cut_up (length script) z) (drop-drop l from script)
     ∙ ap (λ z. take l (drop from script) ∷ z) (sym (enough (length script) (drop (from + l) script) (omega (arith, length-drop (from + l) script))))
     ∙ ap (λ j. take j (drop from script) ∷ pieces_from script (from + l)) (sym k)
 
@@ -61,7 +61,7 @@ pub next-none : (script : List ℕ) (at : ℕ) → piece script at ≡ None → 
 next-none script at e =
     let from = at + gap false (drop at script) in
     let f = subst (Found script from) e (found_at script from) in
-    from_gap script at ∙ ap (cut_off (cut_up_lem (length script))) (drop_all from script f)
+    from_gap script at ∙ ap (cut_off (cut_up (length script))) (drop_all from script f)
 
 pub next-pieces : (script : List ℕ) (at : ℕ) (r : Option Piece) → r ≡ piece script at → Next script at r
 next-pieces script at None e = next-none script at (sym e)

@@ -48,13 +48,13 @@ cut_off next [] = []
 cut_off next (b ∷ bs) = take (piece_length (b ∷ bs)) (b ∷ bs) ∷ next (drop (piece_length (b ∷ bs)) (b ∷ bs))
 
 -- at most so many pieces
-abbrev pub cut_up_lem : ℕ → List ℕ → List (List ℕ)
-cut_up_lem zero s = []
-cut_up_lem (suc n) s = cut_off (cut_up_lem n) (drop (gap false s) s)
+abbrev pub cut_up : ℕ → List ℕ → List (List ℕ)
+cut_up zero s = []
+cut_up (suc n) s = cut_off (cut_up n) (drop (gap false s) s)
 
 -- All pieces of a script as texts. Each has a byte, so there are no more of them than bytes.
 unfoldable pub pieces : List ℕ → List (List ℕ)
-pieces s = cut_up_lem (length s) s
+pieces s = cut_up (length s) s
 
 -- The pieces of what is left of a script at a place.
 abbrev pub pieces_from : List ℕ → ℕ → List (List ℕ)

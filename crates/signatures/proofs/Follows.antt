@@ -1,5 +1,5 @@
 -- Reading the sorts of a declaration token by token gives what the trees say.
-use Rattle.std.proofs.Common.{◌≡◌, ℕ, List, [], ◌∷◌, ◌++◌, length, Some, None, Ok, Err, Option, Result, sym, refl, ap, ◌∙◌, subst, append_assoc}
+use Rattle.std.proofs.Common.{◌≡◌, ℕ, List, [], ◌∷◌, ◌++◌, length, Some, None, Ok, Err, Option, Result, sym, refl, ap, ◌∙◌, append_assoc}
 use Rattle.std.proofs.lemmas.List.{append-nil, take_at, get_or_push}
 use Rattle.grammar.specs.Marks.{Mark, mark, close_list}
 use Rattle.forms.specs.Syntax as syntax
@@ -9,7 +9,7 @@ use Rattle.theory.specs.declared.Sort.TheVariants as sorts
 use Rattle.terms.specs.declared.SortFault.{SortFault}
 use Rattle.terms.specs.Records.{Function}
 use Rattle.terms.specs.Scoping.{Scope, sort_named}
-use Rattle.terms.specs.Sorting.{after, found, bits_at, argument_at, sort_of, sort_start, argument_of, arguments_of, function_of}
+use Rattle.terms.specs.Sorting.{after, found, bits_at, sort_of, sort_start, argument_of, arguments_of, function_of}
 use Rattle.terms.proofs.Sequences.{after-after, after_same, after_made}
 use Rattle.signatures.specs.Steps.{Listed, listed, checked, added, read}
 use Rattle.signatures.specs.Views.{placed, function_in, Follows}

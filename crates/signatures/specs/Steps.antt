@@ -1,11 +1,9 @@
 -- The sorts of a declaration read token by token: those of the arguments, a closing parenthesis, and the result's.
-use Rattle.std.specs.Prelude.{◌≡◌, ℕ, Bool, true, false, cond, List, [], ◌∷◌, ◌++◌, length, get_or, take, Some, None, Ok, Err, Option, Result}
+use Rattle.std.specs.Prelude.{ℕ, List, [], ◌∷◌, ◌++◌, length, Some, None, Ok, Option, Result}
 use Rattle.words.specs.Words.{spelling}
 use Rattle.grammar.specs.Marks.{Mark, Lexeme, open_list, close_list, word, symbol, keyword, numeral, literal}
 use Rattle.theory.specs.declared.Sort.{Sort}
-use Rattle.theory.specs.declared.Sort.TheVariants as sorts
 use Rattle.terms.specs.declared.SortFault.{SortFault}
-use Rattle.terms.specs.Records.{Function}
 use Rattle.terms.specs.Scoping.{Scope, sort_named}
 use Rattle.terms.specs.Sorting.{after, found, bits_at, argument_at}
 

@@ -3,7 +3,6 @@ use Rattle.std.specs.Prelude.{◌≡◌, ℕ, cond, List, [], ◌∷◌, ◌++�
 use Rattle.grammar.specs.Marks.{Mark, mark, close_list}
 use Rattle.forms.specs.Syntax as syntax
 use Rattle.forms.specs.Syntax.{spell_sort, spell_sorts}
-use Rattle.theory.specs.declared.Sort.{Sort}
 use Rattle.theory.specs.declared.Sort.TheVariants as sorts
 use Rattle.terms.specs.declared.SortFault.{SortFault}
 use Rattle.terms.specs.Records.{Function}

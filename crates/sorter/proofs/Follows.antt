@@ -1,18 +1,17 @@
 -- Reading token by token gives what the trees say.
-use Rattle.std.proofs.Common.{◌≡◌, ℕ, ◌+◌, Bool, true, false, cond, List, [], ◌∷◌, ◌++◌, length, take, drop, Some, None, Ok, Err, Option, Result, sym, refl, ap, ◌∙◌, subst, append_assoc}
+use Rattle.std.proofs.Common.{◌≡◌, ℕ, ◌+◌, Bool, false, cond, List, [], ◌∷◌, ◌++◌, length, drop, Ok, Result, sym, refl, ap, ◌∙◌, append_assoc}
 use Rattle.std.proofs.lemmas.List.{append-nil, take_at, drop_at, length-append}
-use Rattle.grammar.specs.Marks.{Mark, mark, open_list, close_list, symbol}
+use Rattle.grammar.specs.Marks.{Mark, mark, open_list, close_list}
 use Rattle.forms.specs.Syntax as syntax
 use Rattle.forms.proofs.Accepts.{inner}
 use Rattle.forms.specs.Syntax.{spell_term, spell_terms, symbol_mark}
 use Rattle.theory.specs.declared.Head.{Head}
 use Rattle.terms.specs.declared.SortFault.{SortFault}
-use Rattle.terms.specs.Terms.{Term, Typed}
+use Rattle.terms.specs.Terms.{Typed}
 use Rattle.terms.specs.Scoping.{Scope, head_of}
 use Rattle.terms.specs.Sorting.{after, found, applied, literal_at, sorted, sorted_all, sorts_in, terms_in}
 use Rattle.terms.proofs.Sequences.{after-after, after_same, after_made}
-use Rattle.sorter.specs.declared.Frame.{Frame}
-use Rattle.sorter.specs.Steps.{Pending, pushed, opening, opened, frame, without, closed, named, read, stepped}
+use Rattle.sorter.specs.Steps.{Pending, pushed, opened, without, read}
 
 -- No head is awaited.
 abbrev waits : Pending → Pending

@@ -1,5 +1,5 @@
 -- Terms read token by token, with a stack of operands and one of open applications.
-use Rattle.std.specs.Prelude.{◌≡◌, ℕ, Bool, true, false, cond, List, [], ◌∷◌, ◌++◌, length, take, drop, Ok, Err, Result}
+use Rattle.std.specs.Prelude.{ℕ, Bool, true, false, cond, List, [], ◌∷◌, ◌++◌, length, take, drop, Ok, Result}
 use Rattle.words.specs.Words.{spelling}
 use Rattle.grammar.specs.Marks.{Mark, Lexeme, open_list, close_list, word, symbol, keyword, numeral, literal}
 use Rattle.theory.specs.declared.Sort.{Sort}

@@ -1,9 +1,8 @@
 -- What the tables show: names, functions, terms as trees, and the record of what stands.
-use Rattle.std.specs.Prelude.{◌≡◌, ℕ, ◌+◌, ◌<◌, ◌≤◌, List, [], ◌∷◌, ◌++◌, map, length, take, drop, None, Option, slice_index, slice_index_or}
+use Rattle.std.specs.Prelude.{◌≡◌, ℕ, ◌+◌, ◌<◌, ◌≤◌, List, [], ◌∷◌, ◌++◌, length, take, drop, None, Option, slice_index, slice_index_or}
 use Rattle.scopes.specs.Stacks.{Scoped, depth, closed}
-use Rattle.scopes.specs.Depths.{Deep, deep, map_deep, Leveled}
+use Rattle.scopes.specs.Depths.{deep, map_deep, Leveled}
 use Rattle.theory.specs.declared.Logic.{Logic}
-use Rattle.theory.specs.declared.Head.{Head}
 use Rattle.tables.specs.declared.rows.Name.{Name}
 use Rattle.tables.specs.declared.rows.FunctionRow.{FunctionRow}
 use Rattle.tables.specs.declared.rows.Node.{Node}
@@ -11,7 +10,7 @@ use Rattle.tables.specs.declared.rows.Node.TheVariants.{Literal, Apply}
 use Rattle.tables.specs.declared.rows.TermRow.{TermRow}
 use Rattle.tables.specs.declared.rows.Counts.{Counts}
 use Rattle.terms.specs.Terms.{Term, literal, apply, gathered, total}
-use Rattle.terms.specs.Records.{Function, Record, items}
+use Rattle.terms.specs.Records.{Function, Record}
 
 abbrev pub name_in : Name → List ℕ
 name_in n = take n.count n.bytes

@@ -1,5 +1,5 @@
 -- What the tables of a session show.
-use Rattle.std.specs.Prelude.{ℕ, List}
+use Rattle.std.specs.Prelude.{List}
 use Rattle.scopes.specs.Tables as scopes
 use Rattle.tables.specs.declared.rows.Counts.{Counts}
 use Rattle.tables.specs.declared.store.Tables.{Tables}

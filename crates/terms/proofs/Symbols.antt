@@ -1,5 +1,5 @@
 -- A name token is read by its bytes, whether its spelling is reserved or not.
-use Rattle.std.proofs.Common.{◌≡◌, ℕ, List, Some, None, Option, sym, refl, ap, ◌∙◌}
+use Rattle.std.proofs.Common.{◌≡◌, ℕ, List, Some, None, Option, refl, ap, ◌∙◌}
 use Rattle.words.specs.declared.Word.{Word}
 use Rattle.words.specs.Words.{spelling, word_of}
 use Rattle.words.proofs.Spellings.{told}

@@ -1,5 +1,5 @@
 -- The record of what stands.
-use Rattle.std.specs.Prelude.{ℕ, ◌+◌, ◌-◌, List, [], ◌∷◌, ◌++◌, map, Some, None, Option}
+use Rattle.std.specs.Prelude.{ℕ, ◌+◌, ◌-◌, List, [], ◌∷◌, ◌++◌, map, None, Option}
 use Rattle.scopes.specs.Depths.{Deep, standing}
 use Rattle.theory.specs.declared.Logic.{Logic}
 use Rattle.theory.specs.declared.Sort.{Sort}

@@ -2,7 +2,7 @@
 use Rattle.std.specs.Prelude.{ℕ, suc, Bool, true, false, cond, not, ◌&&◌, ◌||◌, List, [], ◌∷◌, Some, None, codes, Option, ◌==◌, slice_index}
 use Rattle.words.specs.Words.{same}
 use Rattle.theory.specs.declared.Logic.{Logic}
-use Rattle.theory.specs.declared.Logic.TheVariants.{QfUf, QfBv}
+use Rattle.theory.specs.declared.Logic.TheVariants.{QfUf}
 use Rattle.theory.specs.declared.Sort.{Sort}
 use Rattle.theory.specs.declared.Sort.TheVariants as sorts
 use Rattle.theory.specs.declared.Operator.{Operator}

@@ -1,6 +1,6 @@
 -- The sort and the term of a piece of syntax, or the first fault met in reading and its place:
 -- a term's head first, then its parts in order, then its own number of parts, their sorts, and its width.
-use Rattle.std.specs.Prelude.{ℕ, Bool, true, false, cond, ◌&&◌, List, [], ◌∷◌, ◌++◌, Some, None, Ok, Err, Option, Result, slice_index_or}
+use Rattle.std.specs.Prelude.{ℕ, cond, List, [], ◌∷◌, Some, None, Ok, Err, Option, Result, slice_index_or}
 use Rattle.forms.specs.Syntax as syntax
 use Rattle.theory.specs.declared.Logic.{Logic}
 use Rattle.theory.specs.declared.Logic.TheVariants.{QfUf, QfBv}
@@ -13,7 +13,7 @@ use Rattle.theory.specs.declared.RankFault.TheVariants as ranks
 use Rattle.theory.specs.Ranks.{same_sort, same_sorts, given, rank, bits_of}
 use Rattle.terms.specs.declared.SortFault.{SortFault}
 use Rattle.terms.specs.declared.SortFault.TheVariants.{Unknown, Mismatch, NotBool, Width}
-use Rattle.terms.specs.Terms.{Term, literal, apply, none, Typed, gathered}
+use Rattle.terms.specs.Terms.{Term, literal, apply, Typed, gathered}
 use Rattle.terms.specs.Records.{Function}
 use Rattle.terms.specs.Scoping.{Scope, head_of, sort_named}
 

@@ -1,2 +1,3 @@
+pub mod Found
 pub mod Sorts
 pub mod Spellings

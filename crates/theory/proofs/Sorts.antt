@@ -1,5 +1,5 @@
 -- Lists of sorts.
-use Rattle.std.proofs.Common.{◌≡◌, ℕ, suc, Bool, true, false, ◌&&◌, ◌≢◌, List, [], ◌∷◌, length, refl, ap}
+use Rattle.std.proofs.Common.{◌≡◌, suc, Bool, true, false, ◌&&◌, ◌≢◌, List, [], ◌∷◌, length, refl, ap}
 use Rattle.theory.specs.declared.Sort.{Sort}
 use Rattle.theory.specs.Ranks.{same_sort, same_sorts}
 

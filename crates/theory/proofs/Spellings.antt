@@ -1,12 +1,13 @@
 -- A function of the theories is told by its name.
-use Rattle.std.proofs.Common.{◌≡◌, ℕ, ◌↔◌, List, [], ◌∷◌, Some, None, Option, refl, subst}
+use Rattle.std.proofs.Common.{◌≡◌, ℕ, List, Some, refl, subst}
 use Rattle.bitvec.specs.declared.Operation.TheVariants as bits
-use Rattle.words.specs.Words.{same, first}
-use Rattle.words.proofs.Spellings.{found-spells, found-holds}
+use Rattle.words.specs.Words.{same}
+use Rattle.theory.proofs.Found.{found_spells, found_holds}
 use Rattle.theory.specs.declared.Logic.{Logic}
 use Rattle.theory.specs.declared.Logic.TheVariants.{QfUf, QfBv}
 use Rattle.theory.specs.declared.Operator.{Operator}
 use Rattle.theory.specs.declared.Operator.TheVariants.{True, False, Not, Ite, And, Or, Xor, Implies, Equal, Distinct, Bits}
+use Rattle.theory.specs.Spelled.{first}
 use Rattle.theory.specs.Names.{spelling, core, operators, operator_of, Stands, Named}
 
 itself : (l : Logic) (o : Operator) → Stands l o → operator_of l (spelling o) ≡ Some o
@@ -51,9 +52,9 @@ itself QfBv (Bits bits.Sle) h = refl
 itself QfBv (Bits bits.Concat) h = refl
 
 stands : (l : Logic) (bs : List ℕ) (o : Operator) → first spelling (operators l) bs ≡ Some o → Stands l o
-stands QfUf bs o e = found-holds (Stands QfUf) spelling core bs o (tt, (tt, (tt, (tt, (tt, (tt, (tt, (tt, (tt, (tt, tt)))))))))) e
+stands QfUf bs o e = found_holds (Stands QfUf) spelling core bs o (tt, (tt, (tt, (tt, (tt, (tt, (tt, (tt, (tt, (tt, tt)))))))))) e
 stands QfBv bs o e = tt
 
 pub named : (l : Logic) (bs : List ℕ) → Named l bs (operator_of l bs)
 unfolding operator_of
-named l bs o = (λ e. (stands l bs o e, found-spells spelling (operators l) bs o e), λ h. subst (λ x. operator_of l x ≡ Some o) h.1 (itself l o h.0))
+named l bs o = (λ e. (stands l bs o e, found_spells spelling (operators l) bs o e), λ h. subst (λ x. operator_of l x ≡ Some o) h.1 (itself l o h.0))

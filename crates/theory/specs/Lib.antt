@@ -1,2 +1,3 @@
 pub mod Names
 pub mod Ranks
+pub mod Spelled

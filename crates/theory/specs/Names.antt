@@ -1,8 +1,8 @@
 -- The names of the theories' functions, and in which logic they stand.
-use Rattle.std.specs.Prelude.{◌≡◌, ℕ, Bool, true, false, ◌↔◌, List, [], ◌∷◌, ◌++◌, Some, None, codes, Option}
+use Rattle.std.specs.Prelude.{◌≡◌, ℕ, ◌↔◌, List, [], ◌∷◌, ◌++◌, Some, codes, Option}
 use Rattle.bitvec.specs.declared.Operation.{Operation}
 use Rattle.bitvec.specs.declared.Operation.TheVariants as bits
-use Rattle.words.specs.Words.{first}
+use Rattle.theory.specs.Spelled.{first}
 use Rattle.theory.specs.declared.Logic.{Logic}
 use Rattle.theory.specs.declared.Logic.TheVariants.{QfUf, QfBv}
 use Rattle.theory.specs.declared.Operator.{Operator}

@@ -3,6 +3,7 @@
 
 pub mod names;
 pub mod ranks;
+pub mod spelled;
 
 use bitvec::Operation;
 

@@ -3,9 +3,10 @@ ghost use Rattle.std.specs.Prelude.{◌≡◌};
 ghost use Rattle.words.specs.Words.{same};
 ghost use Rattle.theory.specs.Names.{operation_spelling, spelling as written, operator_of, Named};
 
+use crate::spelled::{Spelled, first};
 use crate::{Logic, Operator};
 use bitvec::Operation;
-use words::{Spelled, first, same};
+use words::same;
 
 // The name is that of the bit-vector operation.
 fn names_operation(operation: Operation, name: &[u8]) -> bool

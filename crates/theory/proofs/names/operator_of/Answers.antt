@@ -1,5 +1,5 @@
 use Rattle.std.proofs.Common.{◌≡◌, sym, ap, ◌∙◌, subst}
-use Rattle.words.specs.Words.{first}
+use Rattle.theory.specs.Spelled.{first}
 use Rattle.theory.specs.Names.{spelling, operators, operator_of, Named}
 use Rattle.theory.proofs.Spellings.{named}
 use Rattle.theory.proofs.names.operator_of.Goals as goal

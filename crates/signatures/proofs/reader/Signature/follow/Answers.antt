@@ -1,7 +1,6 @@
-use Rattle.std.proofs.Common.{List, drop, Result, arith, rules}
+use Rattle.std.proofs.Common.{List, Result, arith, rules}
 use Rattle.std.proofs.lemmas.List.{at_drop_more, at_drop_all}
 use Rattle.grammar.specs.Marks.{marks}
-use Rattle.forms.specs.Forms.{no_token}
 use Rattle.terms.specs.Scoping.{scope_of}
 use Rattle.tables.specs.Views.{record_of}
 use Rattle.tokens.specs.declared.Token.{Token}
