@@ -8,7 +8,7 @@ ghost use Rattle.terms.specs.Scoping.{scope_of, sort_named};
 ghost use Rattle.terms.specs.Sorting.{argument_at, found};
 ghost use Rattle.std.specs.Option.{option_map};
 ghost use Rattle.tables.specs.Stores.{name_in};
-ghost use Rattle.tables.specs.Stores.{function_in as rowFunction};
+ghost use Rattle.tables.specs.Stores.{function_in as row_function};
 ghost use Rattle.tables.specs.Views.{record_of, Tidy};
 ghost use Rattle.signatures.specs.Steps.{listed, checked, added, named, counted, closed, stepped, read};
 ghost use Rattle.signatures.specs.Views.{listed_in, placed, function_in, few_arguments, Follows};
@@ -186,7 +186,7 @@ impl Signature {
     // The function whose sorts were read, with its name; none if it has more than four arguments.
     pub fn row(&self, name: Name) -> Option<FunctionRow>
         requires { self.now.count ≤ 4096 }
-        ensures { option_map rowFunction result ≡ few_arguments (function_in (name_in name) (listed_in self.now)) }
+        ensures { option_map row_function result ≡ few_arguments (function_in (name_in name) (listed_in self.now)) }
     {
         let arity = match self.arity {
             Some(arity) => arity,
