@@ -1,12 +1,11 @@
 -- What is written for the expected items is accepted.
-use Rattle.std.proofs.Common.{◌≡◌, ℕ, Bool, true, false, cond, List, [], ◌∷◌, ◌++◌, Some, codes, sym, refl, ap, ◌∙◌, inl, inr, append_assoc}
+use Rattle.std.proofs.Common.{◌≡◌, ℕ, Bool, true, false, cond, List, [], ◌∷◌, ◌++◌, Some, codes, sym, refl, ap, ◌∙◌, inl, inr, append_assoc, Ok}
 use Rattle.std.specs.Option.{option_map}
 use Rattle.words.specs.Words.{same}
 use Rattle.grammar.specs.declared.signs.Sign.{Sign}
 use Rattle.grammar.specs.declared.signs.Sign.TheVariants.{Symbol, BitVec, Not}
 use Rattle.grammar.specs.declared.items.Item.{Item}
 use Rattle.grammar.specs.declared.items.Item.TheVariants as items
-use Rattle.grammar.specs.declared.items.Outcome.TheVariants.{Accepted}
 use Rattle.grammar.specs.Marks.{Mark, mark, Lexeme, open_list, close_list, symbol, numeral, sign}
 use Rattle.grammar.specs.Machine.{replacement, then_run, run}
 use Rattle.forms.specs.Syntax.{Name, SortName, sort_symbol, bit_vectors, Term, term_symbol, constant, apply, Terms, no_terms, more_terms, Assumption, plain, negated, Atom, atom_word, atom_symbol, atom_keyword, atom_numeral, atom_literal, Expression, atom, list, Expressions, no_more, more, Operands, set_logic, declare_sort, declare_fun, declare_const, assert, push, pop, check_sat, check_sat_assuming, get_value, get_info, reset, exit, symbol_mark, spell_sort, spell_sorts, spell_term, spell_terms, spell_assumption, spell_assumptions, spell_atom, spell_expression, spell_expressions}
@@ -174,6 +173,6 @@ item-run items.ABitVec x σ ms = refl
 item-run items.ANot x σ ms = refl
 item-run items.Anything x σ ms = expressions-run x.0 σ (mark close_list x.1 ∷ ms)
 
-pub written-accepted : (σ : List Item) (x : Parses σ) → run σ (writes σ x) ≡ Accepted
+pub written-accepted : (σ : List Item) (x : Parses σ) → run σ (writes σ x) ≡ Ok tt
 written-accepted [] x = refl
 written-accepted (i ∷ σ) x = item-run i x.0 σ (writes σ x.1) ∙ written-accepted σ x.1

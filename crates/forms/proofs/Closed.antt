@@ -1,5 +1,5 @@
 -- A closed list by its count of parentheses is one by its tokens.
-use Rattle.std.proofs.Common.{◌≡◌, ℕ, zero, suc, ◌+◌, ◌-◌, cond, List, [], ◌∷◌, ◌++◌, replicate, Some, None, Option, sym, refl, ap, ◌∙◌, subst, arith}
+use Rattle.std.proofs.Common.{◌≡◌, ℕ, zero, suc, ◌+◌, ◌-◌, cond, List, [], ◌∷◌, ◌++◌, replicate, Some, None, Option, sym, refl, ap, ◌∙◌, subst, arith, Ok, Err}
 use lib.Dec.{eqb-suc-zero}
 use Rattle.std.specs.Option.{option_map}
 use Rattle.words.specs.declared.Word.{Word}
@@ -10,7 +10,7 @@ use Rattle.tokens.specs.declared.Token.{Token}
 use Rattle.tokens.specs.Lexing.{bytes_of}
 use Rattle.grammar.specs.declared.items.Item.{Item}
 use Rattle.grammar.specs.declared.items.Item.TheVariants as items
-use Rattle.grammar.specs.declared.items.Outcome.TheVariants.{Accepted, Wrong, Short}
+use Rattle.grammar.specs.declared.items.Misfit.TheVariants.{Wrong, Short}
 use Rattle.grammar.specs.Marks.{Mark, mark, symbol_or, lexeme_of, marks, sign}
 use Rattle.grammar.specs.Machine.{replacement, then_run, run}
 use Rattle.forms.specs.Forms.{is_opening, open_behind, closing, closed_list}
@@ -60,14 +60,14 @@ one_token (Literal w v) bs p d ms = refl
 
 closing-run : (text : List ℕ) (ts : List Token) (d : ℕ) → closing d ts ≡ run (anything d) (marks text ts)
 closing-run text [] zero = refl
-closing-run text [] (suc d) = ap (λ v. cond v Accepted Short) (eqb-suc-zero d)
+closing-run text [] (suc d) = ap (λ v. cond v (Ok tt) (Err Short)) (eqb-suc-zero d)
 closing-run text (t ∷ ts) zero = refl
 closing-run text (t ∷ ts) (suc d) =
-    ap (λ v. cond v (Wrong t.from) (closing (open_behind t.kind (suc d)) ts)) (eqb-suc-zero d)
+    ap (λ v. cond v (Err (Wrong t.from)) (closing (open_behind t.kind (suc d)) ts)) (eqb-suc-zero d)
     ∙ closing-run text ts (open_behind t.kind (suc d))
     ∙ sym (one_token t.kind (bytes_of text t) t.from d (marks text ts))
 
-first-token : (k : Kind) (bs : List ℕ) (p : ℕ) (ms : List Mark) → cond (is_opening k) (run (items.Anything ∷ []) ms) (Wrong p) ≡ run list_stack (mark (lexeme_of k bs) p ∷ ms)
+first-token : (k : Kind) (bs : List ℕ) (p : ℕ) (ms : List Mark) → cond (is_opening k) (run (items.Anything ∷ []) ms) (Err (Wrong p)) ≡ run list_stack (mark (lexeme_of k bs) p ∷ ms)
 unfolding replacement
 first-token Opening bs p ms = refl
 first-token Closing bs p ms = refl
@@ -79,4 +79,4 @@ first-token (Literal w v) bs p ms = refl
 pub closed_run : (text : List ℕ) (ts : List Token) → closed_list ts ≡ run list_stack (marks text ts)
 closed_run text [] = refl
 closed_run text (t ∷ ts) =
-    ap (λ r. cond (is_opening t.kind) r (Wrong t.from)) (closing-run text ts 1) ∙ first-token t.kind (bytes_of text t) t.from (marks text ts)
+    ap (λ r. cond (is_opening t.kind) r (Err (Wrong t.from))) (closing-run text ts 1) ∙ first-token t.kind (bytes_of text t) t.from (marks text ts)

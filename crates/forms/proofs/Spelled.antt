@@ -1,5 +1,5 @@
 -- What is accepted is written for the expected items: the trees are made from the last token back to the first.
-use Rattle.std.proofs.Common.{◌≡◌, ℕ, Bool, true, false, cond, eqb, List, [], ◌∷◌, ◌++◌, Some, None, codes, Option, sym, refl, ap, ◌∙◌, subst, inl, inr, append_assoc, eqb-true}
+use Rattle.std.proofs.Common.{◌≡◌, ℕ, Bool, true, false, cond, eqb, List, [], ◌∷◌, ◌++◌, Some, None, codes, Option, sym, refl, ap, ◌∙◌, subst, inl, inr, append_assoc, eqb-true, Ok, Err, Result}
 use Rattle.std.specs.Option.{option_map}
 use Rattle.words.specs.declared.Word.{Word}
 use Rattle.words.specs.declared.Word.TheVariants as words
@@ -8,8 +8,8 @@ use Rattle.words.proofs.Spellings.{same_equal}
 use Rattle.grammar.specs.declared.signs.Sign.TheVariants.{Symbol, BitVec, Not}
 use Rattle.grammar.specs.declared.items.Item.{Item}
 use Rattle.grammar.specs.declared.items.Item.TheVariants as items
-use Rattle.grammar.specs.declared.items.Outcome.{Outcome}
-use Rattle.grammar.specs.declared.items.Outcome.TheVariants.{Accepted, Wrong, Short}
+use Rattle.grammar.specs.declared.items.Misfit.{Misfit}
+use Rattle.grammar.specs.declared.items.Misfit.TheVariants.{Wrong, Short}
 use Rattle.grammar.specs.Marks.{Mark, mark, Lexeme, open_list, close_list, word, symbol, keyword, numeral, literal, sign}
 use Rattle.grammar.specs.Machine.{form_of, is_underscore, only, replacement, then_run, run}
 use Rattle.forms.specs.Syntax.{Name, sort_symbol, bit_vectors, term_symbol, constant, apply, no_terms, more_terms, plain, negated, Atom, atom_word, atom_symbol, atom_keyword, atom_numeral, atom_literal, atom, list, no_more, more, set_logic, declare_sort, declare_fun, declare_const, assert, push, pop, check_sat, check_sat_assuming, get_value, get_info, reset, exit, spell_sort, spell_sorts, spell_term, spell_terms, spell_assumptions, spell_atom, spell_expressions}
@@ -307,29 +307,29 @@ back items.ANot l = back_not l
 back items.Anything l = back_anything l
 
 -- outcomes are apart
-abbrev IsAccepted : Outcome → Type 0
-IsAccepted Accepted = Unit {0}
-IsAccepted (Wrong p) = ⊥
-IsAccepted Short = ⊥
+abbrev IsAccepted : Result (Unit {0}) Misfit → Type 0
+IsAccepted (Ok u) = Unit {0}
+IsAccepted (Err (Wrong p)) = ⊥
+IsAccepted (Err Short) = ⊥
 
-pub wrong_apart : {p : ℕ} → Wrong p ≡ Accepted → ⊥
+pub wrong_apart : {p : ℕ} → ◌≡◌ {A = Result (Unit {0}) Misfit} (Err (Wrong p)) (Ok tt) → ⊥
 wrong_apart e = subst IsAccepted (sym e) tt
 
-pub short_apart : Short ≡ Accepted → ⊥
+pub short_apart : ◌≡◌ {A = Result (Unit {0}) Misfit} (Err Short) (Ok tt) → ⊥
 short_apart e = subst IsAccepted (sym e) tt
 
 abbrev Written : List Item → List Mark → Type 0
 Written σ ms = (x : Parses σ) × (writes σ x ≡ ms)
 
 one-back : (i : Item) (σ : List Item) (m : Mark) (ms : List Mark) (o : Option (List Item)) → Back i m.says o
-    → then_run (option_map (λ is. is ++ σ) o) m.at (λ next. run next ms) ≡ Accepted → ((τ : List Item) → run τ ms ≡ Accepted → Written τ ms) → Written (i ∷ σ) (m ∷ ms)
+    → then_run (option_map (λ is. is ++ σ) o) m.at (λ next. run next ms) ≡ Ok tt → ((τ : List Item) → run τ ms ≡ Ok tt → Written τ ms) → Written (i ∷ σ) (m ∷ ms)
 one-back i σ m ms None b e rest = absurd (wrong_apart e)
 one-back i σ m ms (Some is) b e rest =
     let r = rest (is ++ σ) e in
     let y = b σ m.at r.0 in
     (y.0, y.1 ∙ ap (λ l. m ∷ l) r.1)
 
-pub accepted-written : (ms : List Mark) (σ : List Item) → run σ ms ≡ Accepted → Written σ ms
+pub accepted-written : (ms : List Mark) (σ : List Item) → run σ ms ≡ Ok tt → Written σ ms
 accepted-written [] [] e = (tt, refl)
 accepted-written [] (i ∷ σ) e = absurd (short_apart e)
 accepted-written (m ∷ ms) [] e = absurd (wrong_apart e)

@@ -1,11 +1,11 @@
 -- The stack of items lies in a table from its top to the table's end.
-use Rattle.std.proofs.Common.{◌≡◌, ℕ, ◌+◌, ◌-◌, ◌<◌, ◌≤◌, List, [], ◌∷◌, ◌++◌, length, get_or, take, drop, set, Some, None, Option, sym, ap, ◌∙◌, arith}
+use Rattle.std.proofs.Common.{◌≡◌, ℕ, ◌+◌, ◌-◌, ◌<◌, ◌≤◌, List, [], ◌∷◌, ◌++◌, length, get_or, take, drop, set, Some, None, Option, sym, ap, ◌∙◌, arith, Ok, Err}
 use borrow.Rule.Slice.PartMut.{put_mid, Post-is}
 use Rattle.std.specs.Option.{option_map}
 use Rattle.std.proofs.lemmas.List.{drop_more, drop_all, drop_at, drop-set, drop-set-add, length-take-le, at_drop_more}
 use Rattle.grammar.specs.declared.signs.Sign.{Sign}
 use Rattle.grammar.specs.declared.items.Item.{Item}
-use Rattle.grammar.specs.declared.items.Outcome.TheVariants.{Accepted, Wrong, Short}
+use Rattle.grammar.specs.declared.items.Misfit.TheVariants.{Wrong, Short}
 use Rattle.tokens.specs.declared.Token.{Token}
 use Rattle.grammar.specs.Marks.{marks}
 use Rattle.grammar.specs.Machine.{replacement, step, then_run, at_end, run}
@@ -39,7 +39,7 @@ module _ (text : List ℕ) (ts : List Token) (i : ℕ) (stack : List Item) where
   one-run : (d : Token) → i < length ts → run stack (marks text (drop i ts)) ≡ then_run (step stack (sign_in text (get_or ts i d))) (get_or ts i d).from (λ next. run next (marks text (drop (i + 1) ts)))
   one-run d h = at_drop_more (λ l. run stack (marks text l)) ts i d h
 
-  pub wrong-run : (d : Token) (s : Sign) → i < length ts → s ≡ sign_in text (get_or ts i d) → None ≡ step stack s → run stack (marks text (drop i ts)) ≡ Wrong (get_or ts i d).from
+  pub wrong-run : (d : Token) (s : Sign) → i < length ts → s ≡ sign_in text (get_or ts i d) → None ≡ step stack s → run stack (marks text (drop i ts)) ≡ Err (Wrong (get_or ts i d).from)
   wrong-run d s h is e = one-run d h ∙ ap (λ o. then_run o (get_or ts i d).from (λ next. run next (marks text (drop (i + 1) ts)))) (sym (e ∙ ap (step stack) is))
 
   pub more-run : (d : Token) (s : Sign) (next : List Item) → i < length ts → s ≡ sign_in text (get_or ts i d) → Some next ≡ step stack s → run stack (marks text (drop i ts)) ≡ run next (marks text (drop (i + 1) ts))
@@ -48,8 +48,8 @@ module _ (text : List ℕ) (ts : List Token) (i : ℕ) (stack : List Item) where
   pub end_run : length ts ≤ i → run stack (marks text (drop i ts)) ≡ at_end stack
   end_run h = ap (λ l. run stack (marks text l)) (drop_all i ts h)
 
-pub nothing_left : (items : List Item) (top : ℕ) → length items ≤ top → at_end (drop top items) ≡ Accepted
+pub nothing_left : (items : List Item) (top : ℕ) → length items ≤ top → at_end (drop top items) ≡ Ok tt
 nothing_left items top h = ap at_end (drop_all top items h)
 
-pub something_left : (items : List Item) (top : ℕ) (d : Item) → top < length items → at_end (drop top items) ≡ Short
+pub something_left : (items : List Item) (top : ℕ) (d : Item) → top < length items → at_end (drop top items) ≡ Err Short
 something_left items top d h = ap at_end (drop_more items top d h)

@@ -9,10 +9,10 @@ use Rattle.tokens.specs.Lexing.{token, bytes_of}
 use Rattle.grammar.specs.declared.signs.Sign.{Sign}
 use Rattle.grammar.specs.declared.signs.Sign.TheVariants.{Open, Close, Reserved, Symbol, BitVec, Not, Key, Number, Constant}
 use Rattle.grammar.specs.declared.items.Item.TheVariants as items
-use Rattle.grammar.specs.declared.items.Outcome.{Outcome}
-use Rattle.grammar.specs.declared.items.Outcome.TheVariants.{Accepted, Wrong, Short}
+use Rattle.grammar.specs.declared.items.Misfit.{Misfit}
+use Rattle.grammar.specs.declared.items.Misfit.TheVariants.{Wrong, Short}
 use Rattle.grammar.specs.Marks.{marks, sign, lexeme_of}
-use Rattle.grammar.specs.Machine.{run}
+use Rattle.grammar.specs.Machine.{run, place_of}
 use Rattle.forms.specs.declared.Command.{Command}
 use Rattle.forms.specs.declared.Command.TheVariants.{SetLogic, DeclareSort, DeclareFun, DeclareConst, Assert, Push, Pop, CheckSat, CheckSatAssuming, GetValue, GetInfo, Reset, Exit, Other}
 use Rattle.forms.specs.declared.FormFault.{FormFault}
@@ -36,14 +36,14 @@ open_behind (Numeral n) d = d
 open_behind (Literal w v) d = d
 
 -- The tokens close the lists that are open, so many, with the last of them.
-abbrev pub closing : ℕ → List Token → Outcome
-closing d [] = cond (d == 0) Accepted Short
-closing d (t ∷ ts) = cond (d == 0) (Wrong t.from) (closing (open_behind t.kind d) ts)
+abbrev pub closing : ℕ → List Token → Result (Unit {0}) Misfit
+closing d [] = cond (d == 0) (Ok tt) (Err Short)
+closing d (t ∷ ts) = cond (d == 0) (Err (Wrong t.from)) (closing (open_behind t.kind d) ts)
 
 -- The tokens are one closed list.
-abbrev pub closed_list : List Token → Outcome
-closed_list [] = Short
-closed_list (t ∷ ts) = cond (is_opening t.kind) (closing 1 ts) (Wrong t.from)
+abbrev pub closed_list : List Token → Result (Unit {0}) Misfit
+closed_list [] = Err Short
+closed_list (t ∷ ts) = cond (is_opening t.kind) (closing 1 ts) (Err (Wrong t.from))
 
 -- The first parenthesis that opens a list inside 64 others; so many are open at the front.
 abbrev pub deepest : ℕ → List Token → Option ℕ
@@ -112,18 +112,17 @@ abbrev pub then : {A B E : Type 0} → Result A E → (A → Result B E) → Res
 then (Ok a) next = next a
 then (Err e) next = Err e
 
--- A fault at the token that doesn't fit, or at the text's end where tokens are missing.
-abbrev pub judged : Outcome → (ℕ → FormFault) → ℕ → Result (Unit {0}) FormFault
-judged Accepted fault size = Ok tt
-judged (Wrong p) fault size = Err (fault p)
-judged Short fault size = Err (fault size)
+-- A fault where the tokens miss the form, in a text of so many bytes.
+abbrev pub judged : Result (Unit {0}) Misfit → (ℕ → FormFault) → ℕ → Result (Unit {0}) FormFault
+judged (Ok u) fault size = Ok tt
+judged (Err m) fault size = Err (fault (place_of m size))
 
 abbrev pub shallow : Option ℕ → Result (Unit {0}) FormFault
 shallow None = Ok tt
 shallow (Some p) = Err (Nested p)
 
 -- Whether the tokens are a command.
-abbrev pub fitted : List ℕ → List Token → Outcome
+abbrev pub fitted : List ℕ → List Token → Result (Unit {0}) Misfit
 fitted text ts = run (items.OpenList ∷ items.Command ∷ []) (marks text ts)
 
 -- One closed list first, then the nesting, then the form.

@@ -1,22 +1,21 @@
 // Reading a command's form off its tokens.
 #![tactic(auto)]
 
-ghost use Rattle.std.specs.Prelude.{◌≡◌, ℕ, ◌+◌, ◌*◌, ◌<◌, ◌≤◌, List, [], ◌∷◌, length, drop, IfSome, slice_index_or};
+ghost use Rattle.std.specs.Prelude.{◌≡◌, ◌+◌, ◌<◌, ◌≤◌, length, drop, IfSome};
 ghost use Rattle.std.specs.Option.{option_map};
-ghost use Rattle.grammar.specs.Marks.{marks};
-ghost use Rattle.grammar.specs.Machine.{step, run};
-ghost use Rattle.forms.specs.declared.FormFault.TheVariants.{Unclosed, Nested, Outside};
-ghost use Rattle.forms.specs.Forms.{is_opening, open_behind, closing, closed_list, deepest, number_of, word_command, headed, no_token, sign_in, command_of, judged, shallow, fitted, formed};
+ghost use Rattle.grammar.specs.Machine.{step};
+ghost use Rattle.forms.specs.Forms.{open_behind, closed_list, deepest, number_of, word_command, command_of, fitted, formed};
 ghost use Rattle.forms.specs.Laws.{Reading};
 
-use grammar::items::{Item, Outcome};
+use grammar::items::{Item, Misfit};
 use grammar::machine::replacement;
 use grammar::signs::{Sign, sign_of};
+use tokens::text::Tokens;
 use tokens::{Kind, Token};
 use words::Word;
 
 // A command in form. Logic and keyword are told by their token, a numeral by its value and place.
-#[derive(Clone, Copy)]
+#[derive(Clone, Copy, Debug, PartialEq, Eq)]
 pub enum Command {
     SetLogic(Token),
     DeclareSort,
@@ -36,7 +35,7 @@ pub enum Command {
 }
 
 // Each fault has its place.
-#[derive(Clone, Copy)]
+#[derive(Clone, Copy, Debug, PartialEq, Eq)]
 pub enum FormFault {
     // the tokens aren't one closed list
     Unclosed(usize),
@@ -44,12 +43,6 @@ pub enum FormFault {
     Nested(usize),
     // a token outside the command's form
     Outside(usize),
-}
-
-fn is_opening(kind: Kind) -> bool
-    ensures { result ≡ is_opening kind }
-{
-    matches!(kind, Kind::Opening)
 }
 
 // How many lists are open behind a token.
@@ -65,40 +58,36 @@ fn open_behind(kind: Kind, depth: usize) -> usize
     }
 }
 
-fn closed_list(tokens: &[Token]) -> Outcome
-    requires { length tokens.now ≤ 4096 }
-    ensures { result ≡ closed_list tokens.now }
+fn closed_list(tokens: Tokens<'_>) -> Result<(), Misfit>
+    ensures { result ≡ closed_list tokens.entry.rows.now }
 {
-    if tokens.is_empty() {
-        return Outcome::Short;
+    let [head, rest @ ..] = tokens.rows else {
+        return Err(Misfit::Short);
+    };
+    if head.kind != Kind::Opening {
+        return Err(Misfit::Wrong(head.from));
     }
-    let head = tokens[0];
-    if !is_opening(head.kind) {
-        return Outcome::Wrong(head.from);
-    }
-    let mut depth = 1;
-    for i in 1..tokens.len() {
-        let token = tokens[i];
+    let mut depth: usize = 1;
+    for later in rest {
         if depth == 0 {
-            return Outcome::Wrong(token.from);
+            return Err(Misfit::Wrong(later.from));
         }
-        depth = open_behind(token.kind, depth);
+        depth = open_behind(later.kind, depth);
     }
     if depth == 0 {
-        Outcome::Accepted
+        Ok(())
     } else {
-        Outcome::Short
+        Err(Misfit::Short)
     }
 }
 
 // The first parenthesis that opens a list inside 64 others.
-fn deepest(tokens: &[Token]) -> Option<usize>
-    requires { length tokens.now ≤ 4096 }
-    ensures { result ≡ deepest 0 tokens.now }
+fn deepest(tokens: Tokens<'_>) -> Option<usize>
+    ensures { result ≡ deepest 0 tokens.entry.rows.now }
 {
     let mut depth = 0;
-    for token in tokens {
-        if is_opening(token.kind) && depth == 64 {
+    for token in tokens.rows {
+        if token.kind == Kind::Opening && depth == 64 {
             return Some(token.from);
         }
         depth = open_behind(token.kind, depth);
@@ -116,34 +105,30 @@ fn advance(items: &mut [Item; 16388], top: usize, sign: Sign) -> Option<usize>
     if top == 16388 {
         return None;
     }
-    match replacement(items[top], sign) {
-        Some(pushed) => {
-            let next = top + 1 - pushed.len();
-            items[next..top + 1].copy_from_slice(pushed);
-            Some(next)
-        }
-        None => None,
-    }
+    let pushed = replacement(items[top], sign)?;
+    let next = top + 1 - pushed.len();
+    items[next..top + 1].copy_from_slice(pushed);
+    Some(next)
 }
 
 // Whether the tokens are a command.
-fn fits(text: &[u8], tokens: &[Token], items: &mut [Item; 16388]) -> Outcome
-    requires { length tokens.now ≤ 4096 }
-    ensures { result ≡ fitted text.now tokens.now }
+fn fits(tokens: Tokens<'_>, items: &mut [Item; 16388]) -> Result<(), Misfit>
+    ensures { result ≡ fitted tokens.entry.text.now tokens.entry.rows.now }
 {
     items[16386] = Item::OpenList;
     items[16387] = Item::Command;
     let mut top = 16386;
-    for token in tokens {
-        match advance(items, top, sign_of(text, *token)) {
-            Some(next) => top = next,
-            None => return Outcome::Wrong(token.from),
-        }
+    for token in tokens.rows {
+        let sign = sign_of(tokens.text, *token);
+        let Some(next) = advance(items, top, sign) else {
+            return Err(Misfit::Wrong(token.from));
+        };
+        top = next;
     }
     if top == 16388 {
-        Outcome::Accepted
+        Ok(())
     } else {
-        Outcome::Short
+        Err(Misfit::Short)
     }
 }
 
@@ -178,79 +163,29 @@ fn word_command(word: Word, operand: Token) -> Command
     }
 }
 
-fn token_or_none(tokens: &[Token], at: usize) -> Token
-    ensures { result ≡ slice_index_or tokens.now at no_token }
-{
-    if at < tokens.len() {
-        tokens[at]
-    } else {
-        Token {
-            kind: Kind::Opening,
-            from: 0,
-            end: 0,
-        }
-    }
-}
-
 // The command whose word is the second token and whose operand is the third.
-fn command_of(text: &[u8], tokens: &[Token]) -> Command
-    ensures { result ≡ command_of text.now tokens.now }
+fn command_of(tokens: Tokens<'_>) -> Command
+    requires { 2 < length tokens.rows.now }
+    ensures { result ≡ command_of tokens.entry.text.now tokens.entry.rows.now }
 {
-    let operand = token_or_none(tokens, 2);
-    match sign_of(text, token_or_none(tokens, 1)) {
+    let operand = tokens.rows[2];
+    match sign_of(tokens.text, tokens.rows[1]) {
         Sign::Reserved(word) => word_command(word, operand),
         _ => Command::Other,
     }
 }
 
-fn one_closed_list(text: &[u8], tokens: &[Token]) -> Result<(), FormFault>
-    requires { length tokens.now ≤ 4096 }
-    ensures { result ≡ judged (closed_list tokens.now) Unclosed (length text.now) }
-{
-    match closed_list(tokens) {
-        Outcome::Accepted => Ok(()),
-        Outcome::Wrong(place) => Err(FormFault::Unclosed(place)),
-        Outcome::Short => Err(FormFault::Unclosed(text.len())),
-    }
-}
-
-fn nested_within(tokens: &[Token]) -> Result<(), FormFault>
-    requires { length tokens.now ≤ 4096 }
-    ensures { result ≡ shallow (deepest 0 tokens.now) }
-{
-    match deepest(tokens) {
-        None => Ok(()),
-        Some(place) => Err(FormFault::Nested(place)),
-    }
-}
-
-fn in_form(text: &[u8], tokens: &[Token], items: &mut [Item; 16388]) -> Result<(), FormFault>
-    requires { length tokens.now ≤ 4096 }
-    ensures { result ≡ judged (fitted text.now tokens.now) Outside (length text.now) }
-{
-    match fits(text, tokens, items) {
-        Outcome::Accepted => Ok(()),
-        Outcome::Wrong(place) => Err(FormFault::Outside(place)),
-        Outcome::Short => Err(FormFault::Outside(text.len())),
-    }
-}
-
-// One closed list first, then the nesting, then the form.
-fn read_form(text: &[u8], tokens: &[Token], items: &mut [Item; 16388]) -> Result<Command, FormFault>
-    requires { length tokens.now ≤ 4096 }
-    ensures { result ≡ formed text.now tokens.now }
-{
-    one_closed_list(text, tokens)?;
-    nested_within(tokens)?;
-    in_form(text, tokens, items)?;
-    Ok(command_of(text, tokens))
-}
-
 // The command that the tokens of the text are. The table of items is room to work in.
-pub fn read(text: &[u8], tokens: &[Token], items: &mut [Item; 16388]) -> Result<Command, FormFault>
-    requires { length tokens.now ≤ 4096 }
-    ensures value { result ≡ formed text.now tokens.now }
-    ensures law { Reading text.now tokens.now result }
+// One closed list first, then the nesting, then the form.
+pub fn read(tokens: Tokens<'_>, items: &mut [Item; 16388]) -> Result<Command, FormFault>
+    ensures value { result ≡ formed tokens.entry.text.now tokens.entry.rows.now }
+    ensures law { Reading tokens.entry.text.now tokens.entry.rows.now result }
 {
-    read_form(text, tokens, items)
+    let size = tokens.text.len();
+    closed_list(tokens).map_err(|misfit| FormFault::Unclosed(misfit.place(size)))?;
+    if let Some(place) = deepest(tokens) {
+        return Err(FormFault::Nested(place));
+    }
+    fits(tokens, items).map_err(|misfit| FormFault::Outside(misfit.place(size)))?;
+    Ok(command_of(tokens))
 }

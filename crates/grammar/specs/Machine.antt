@@ -1,5 +1,5 @@
 -- The forms, as a machine that reads tokens against a stack of what is expected.
-use Rattle.std.specs.Prelude.{ℕ, Bool, true, false, cond, List, [], ◌∷◌, ◌++◌, Some, None, Option, ◌==◌}
+use Rattle.std.specs.Prelude.{ℕ, Bool, true, false, cond, List, [], ◌∷◌, ◌++◌, Some, None, Ok, Err, Option, Result, ◌==◌}
 use Rattle.std.specs.Option.{option_map}
 use Rattle.words.specs.declared.Word.{Word}
 use Rattle.words.specs.declared.Word.TheVariants.{Push, Pop, Assert, CheckSat, DeclareConst, DeclareFun, DeclareSort, CheckSatAssuming, GetValue, GetInfo, SetLogic, Reset, Exit, Underscore, Bang, As, Let, Exists, Forall, Match, Par, Binary, Decimal, Hexadecimal, Numerals, Strings}
@@ -7,8 +7,8 @@ use Rattle.grammar.specs.declared.signs.Sign.{Sign}
 use Rattle.grammar.specs.declared.signs.Sign.TheVariants.{Open, Close, Reserved, Symbol, BitVec, Not, Key, Number, Constant}
 use Rattle.grammar.specs.declared.items.Item.{Item}
 use Rattle.grammar.specs.declared.items.Item.TheVariants.{OpenList, CloseList, Command, AName, AKeyword, ANumeral, AZero, ASort, Sorts, ATerm, Terms, Assumptions, AnUnderscore, ABitVec, ANot, Anything}
-use Rattle.grammar.specs.declared.items.Outcome.{Outcome}
-use Rattle.grammar.specs.declared.items.Outcome.TheVariants.{Accepted, Wrong, Short}
+use Rattle.grammar.specs.declared.items.Misfit.{Misfit}
+use Rattle.grammar.specs.declared.items.Misfit.TheVariants.{Wrong, Short}
 use Rattle.grammar.specs.Marks.{Mark, sign}
 
 -- What follows the word of each command; a word that is no command's has no form.
@@ -285,15 +285,20 @@ abbrev pub step : List Item → Sign → Option (List Item)
 step [] s = None
 step (i ∷ stack) s = option_map (λ is. is ++ stack) (replacement i s)
 
-abbrev pub then_run : Option (List Item) → ℕ → (List Item → Outcome) → Outcome
-then_run None p next = Wrong p
+abbrev pub then_run : Option (List Item) → ℕ → (List Item → Result (Unit {0}) Misfit) → Result (Unit {0}) Misfit
+then_run None p next = Err (Wrong p)
 then_run (Some stack) p next = next stack
 
-abbrev pub at_end : List Item → Outcome
-at_end [] = Accepted
-at_end (i ∷ stack) = Short
+abbrev pub at_end : List Item → Result (Unit {0}) Misfit
+at_end [] = Ok tt
+at_end (i ∷ stack) = Err Short
 
 -- All tokens fit, or which is the first that doesn't, or the tokens end too early.
-abbrev pub run : List Item → List Mark → Outcome
+abbrev pub run : List Item → List Mark → Result (Unit {0}) Misfit
 run stack [] = at_end stack
 run stack (m ∷ ms) = then_run (step stack (sign m.says)) m.at (λ next. run next ms)
+
+-- Where a text of so many bytes is at fault: at the token that doesn't fit, or at its end where tokens are missing.
+abbrev pub place_of : Misfit → ℕ → ℕ
+place_of (Wrong p) size = p
+place_of Short size = size

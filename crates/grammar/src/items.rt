@@ -1,6 +1,8 @@
-// What a form expects next, and how reading against it ends.
+// What a form expects next, and how tokens can miss it.
+ghost use Rattle.std.specs.Prelude.{◌≡◌};
+ghost use Rattle.grammar.specs.Machine.{place_of};
 
-#[derive(Clone, Copy)]
+#[derive(Clone, Copy, Debug, PartialEq, Eq)]
 pub enum Item {
     OpenList,
     CloseList,
@@ -25,11 +27,23 @@ pub enum Item {
     Anything,
 }
 
-#[derive(Clone, Copy)]
-pub enum Outcome {
-    Accepted,
+// Why tokens aren't what is expected.
+#[derive(Clone, Copy, Debug, PartialEq, Eq)]
+pub enum Misfit {
     // the place of the first token that doesn't fit
     Wrong(usize),
     // the tokens end too early
     Short,
+}
+
+impl Misfit {
+    // Where a text of so many bytes is at fault.
+    pub fn place(self, size: usize) -> usize
+        ensures { result ≡ place_of self size }
+    {
+        match self {
+            Misfit::Wrong(place) => place,
+            Misfit::Short => size,
+        }
+    }
 }

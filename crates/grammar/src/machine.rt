@@ -1,7 +1,7 @@
 // The machine that reads tokens against a stack of expected items.
-ghost use Rattle.std.specs.Prelude.{◌≡◌, ℕ, ◌≤◌, length, IfSome};
+ghost use Rattle.std.specs.Prelude.{◌≡◌, ◌≤◌, length, IfSome};
 ghost use Rattle.std.specs.Option.{option_map};
-ghost use Rattle.grammar.specs.Machine.{form_of, at_open, at_close, at_command, at_name, at_keyword, at_numeral, at_zero, at_sort, at_sorts, at_term, at_terms, at_assumptions, at_underscore, at_bit_vec, at_not, at_anything, replaced, replacement};
+ghost use Rattle.grammar.specs.Machine.{form_of, replacement};
 
 use crate::items::Item;
 use crate::signs::Sign;
@@ -24,227 +24,65 @@ fn form_of(word: Word) -> Option<&'static [Item]>
         ]),
         Word::DeclareConst => Some(&[Item::AName, Item::ASort, Item::CloseList]),
         Word::Assert => Some(&[Item::ATerm, Item::CloseList]),
-        Word::Push => Some(&[Item::ANumeral, Item::CloseList]),
-        Word::Pop => Some(&[Item::ANumeral, Item::CloseList]),
-        Word::CheckSat => Some(&[Item::CloseList]),
+        Word::Push | Word::Pop => Some(&[Item::ANumeral, Item::CloseList]),
+        Word::CheckSat | Word::Reset | Word::Exit => Some(&[Item::CloseList]),
         Word::CheckSatAssuming => Some(&[Item::OpenList, Item::Assumptions, Item::CloseList]),
         Word::GetValue => Some(&[Item::OpenList, Item::ATerm, Item::Terms, Item::CloseList]),
         Word::GetInfo => Some(&[Item::AKeyword, Item::CloseList]),
-        Word::Reset => Some(&[Item::CloseList]),
-        Word::Exit => Some(&[Item::CloseList]),
         _ => None,
     }
 }
 
-fn at_open(sign: Sign) -> Option<&'static [Item]>
-    ensures value { option_map (λ x. x.now) result ≡ at_open sign }
+// What is expected in place of the item once the token is read.
+#[tactic(auto, unfolding(crate::specs::Machine::replacement))]
+pub fn replacement(item: Item, sign: Sign) -> Option<&'static [Item]>
+    ensures value { option_map (λ x. x.now) result ≡ replacement item sign }
     ensures few { IfSome result (λ is. length is.now ≤ 5) }
 {
-    match sign {
-        Sign::Open => Some(&[]),
-        _ => None,
-    }
-}
-
-fn at_close(sign: Sign) -> Option<&'static [Item]>
-    ensures value { option_map (λ x. x.now) result ≡ at_close sign }
-    ensures few { IfSome result (λ is. length is.now ≤ 5) }
-{
-    match sign {
-        Sign::Close => Some(&[]),
-        _ => None,
-    }
-}
-
-fn at_command(sign: Sign) -> Option<&'static [Item]>
-    ensures value { option_map (λ x. x.now) result ≡ at_command sign }
-    ensures few { IfSome result (λ is. length is.now ≤ 5) }
-{
-    match sign {
-        Sign::Reserved(word) => form_of(word),
-        Sign::Symbol | Sign::BitVec | Sign::Not => Some(&[Item::Anything]),
-        _ => None,
-    }
-}
-
-fn at_name(sign: Sign) -> Option<&'static [Item]>
-    ensures value { option_map (λ x. x.now) result ≡ at_name sign }
-    ensures few { IfSome result (λ is. length is.now ≤ 5) }
-{
-    match sign {
-        Sign::Symbol | Sign::BitVec | Sign::Not => Some(&[]),
-        _ => None,
-    }
-}
-
-fn at_keyword(sign: Sign) -> Option<&'static [Item]>
-    ensures value { option_map (λ x. x.now) result ≡ at_keyword sign }
-    ensures few { IfSome result (λ is. length is.now ≤ 5) }
-{
-    match sign {
-        Sign::Key => Some(&[]),
-        _ => None,
-    }
-}
-
-fn at_numeral(sign: Sign) -> Option<&'static [Item]>
-    ensures value { option_map (λ x. x.now) result ≡ at_numeral sign }
-    ensures few { IfSome result (λ is. length is.now ≤ 5) }
-{
-    match sign {
-        Sign::Number(_) => Some(&[]),
-        _ => None,
-    }
-}
-
-fn at_zero(sign: Sign) -> Option<&'static [Item]>
-    ensures value { option_map (λ x. x.now) result ≡ at_zero sign }
-    ensures few { IfSome result (λ is. length is.now ≤ 5) }
-{
-    match sign {
-        Sign::Number(0) => Some(&[]),
-        _ => None,
-    }
-}
-
-fn at_sort(sign: Sign) -> Option<&'static [Item]>
-    ensures value { option_map (λ x. x.now) result ≡ at_sort sign }
-    ensures few { IfSome result (λ is. length is.now ≤ 5) }
-{
-    match sign {
-        Sign::Open => Some(&[
+    match (item, sign) {
+        (Item::OpenList, Sign::Open)
+        | (
+            Item::CloseList | Item::Sorts | Item::Terms | Item::Assumptions | Item::Anything,
+            Sign::Close,
+        )
+        | (Item::AKeyword, Sign::Key)
+        | (Item::ANumeral, Sign::Number(_))
+        | (Item::AZero, Sign::Number(0))
+        | (Item::AName | Item::ASort | Item::ATerm, Sign::Symbol | Sign::BitVec | Sign::Not)
+        | (Item::ATerm, Sign::Constant)
+        | (Item::AnUnderscore, Sign::Reserved(Word::Underscore))
+        | (Item::ABitVec, Sign::BitVec)
+        | (Item::ANot, Sign::Not) => Some(&[]),
+        (Item::Command, Sign::Reserved(word)) => form_of(word),
+        (Item::Command, Sign::Symbol | Sign::BitVec | Sign::Not) => Some(&[Item::Anything]),
+        (Item::ASort, Sign::Open) => Some(&[
             Item::AnUnderscore,
             Item::ABitVec,
             Item::ANumeral,
             Item::CloseList,
         ]),
-        Sign::Symbol | Sign::BitVec | Sign::Not => Some(&[]),
-        _ => None,
-    }
-}
-
-fn at_sorts(sign: Sign) -> Option<&'static [Item]>
-    ensures value { option_map (λ x. x.now) result ≡ at_sorts sign }
-    ensures few { IfSome result (λ is. length is.now ≤ 5) }
-{
-    match sign {
-        Sign::Open => Some(&[
+        (Item::Sorts, Sign::Open) => Some(&[
             Item::AnUnderscore,
             Item::ABitVec,
             Item::ANumeral,
             Item::CloseList,
             Item::Sorts,
         ]),
-        Sign::Close => Some(&[]),
-        Sign::Symbol | Sign::BitVec | Sign::Not => Some(&[Item::Sorts]),
+        (Item::Sorts, Sign::Symbol | Sign::BitVec | Sign::Not) => Some(&[Item::Sorts]),
+        (Item::ATerm, Sign::Open) => Some(&[Item::AName, Item::ATerm, Item::Terms]),
+        (Item::Terms, Sign::Open) => Some(&[Item::AName, Item::ATerm, Item::Terms, Item::Terms]),
+        (Item::Terms, Sign::Symbol | Sign::BitVec | Sign::Not | Sign::Constant) => Some(&[
+            Item::Terms,
+        ]),
+        (Item::Assumptions, Sign::Open) => Some(&[
+            Item::ANot,
+            Item::AName,
+            Item::CloseList,
+            Item::Assumptions,
+        ]),
+        (Item::Assumptions, Sign::Symbol | Sign::BitVec | Sign::Not) => Some(&[Item::Assumptions]),
+        (Item::Anything, Sign::Open) => Some(&[Item::Anything, Item::Anything]),
+        (Item::Anything, _) => Some(&[Item::Anything]),
         _ => None,
     }
-}
-
-fn at_term(sign: Sign) -> Option<&'static [Item]>
-    ensures value { option_map (λ x. x.now) result ≡ at_term sign }
-    ensures few { IfSome result (λ is. length is.now ≤ 5) }
-{
-    match sign {
-        Sign::Open => Some(&[Item::AName, Item::ATerm, Item::Terms]),
-        Sign::Symbol | Sign::BitVec | Sign::Not | Sign::Constant => Some(&[]),
-        _ => None,
-    }
-}
-
-fn at_terms(sign: Sign) -> Option<&'static [Item]>
-    ensures value { option_map (λ x. x.now) result ≡ at_terms sign }
-    ensures few { IfSome result (λ is. length is.now ≤ 5) }
-{
-    match sign {
-        Sign::Open => Some(&[Item::AName, Item::ATerm, Item::Terms, Item::Terms]),
-        Sign::Close => Some(&[]),
-        Sign::Symbol | Sign::BitVec | Sign::Not | Sign::Constant => Some(&[Item::Terms]),
-        _ => None,
-    }
-}
-
-fn at_assumptions(sign: Sign) -> Option<&'static [Item]>
-    ensures value { option_map (λ x. x.now) result ≡ at_assumptions sign }
-    ensures few { IfSome result (λ is. length is.now ≤ 5) }
-{
-    match sign {
-        Sign::Open => Some(&[Item::ANot, Item::AName, Item::CloseList, Item::Assumptions]),
-        Sign::Close => Some(&[]),
-        Sign::Symbol | Sign::BitVec | Sign::Not => Some(&[Item::Assumptions]),
-        _ => None,
-    }
-}
-
-fn at_underscore(sign: Sign) -> Option<&'static [Item]>
-    ensures value { option_map (λ x. x.now) result ≡ at_underscore sign }
-    ensures few { IfSome result (λ is. length is.now ≤ 5) }
-{
-    match sign {
-        Sign::Reserved(Word::Underscore) => Some(&[]),
-        _ => None,
-    }
-}
-
-fn at_bitvec(sign: Sign) -> Option<&'static [Item]>
-    ensures value { option_map (λ x. x.now) result ≡ at_bit_vec sign }
-    ensures few { IfSome result (λ is. length is.now ≤ 5) }
-{
-    match sign {
-        Sign::BitVec => Some(&[]),
-        _ => None,
-    }
-}
-
-fn at_not(sign: Sign) -> Option<&'static [Item]>
-    ensures value { option_map (λ x. x.now) result ≡ at_not sign }
-    ensures few { IfSome result (λ is. length is.now ≤ 5) }
-{
-    match sign {
-        Sign::Not => Some(&[]),
-        _ => None,
-    }
-}
-
-fn at_anything(sign: Sign) -> Option<&'static [Item]>
-    ensures value { option_map (λ x. x.now) result ≡ at_anything sign }
-    ensures few { IfSome result (λ is. length is.now ≤ 5) }
-{
-    match sign {
-        Sign::Open => Some(&[Item::Anything, Item::Anything]),
-        Sign::Close => Some(&[]),
-        _ => Some(&[Item::Anything]),
-    }
-}
-
-fn replaced(item: Item, sign: Sign) -> Option<&'static [Item]>
-    ensures value { option_map (λ x. x.now) result ≡ replaced item sign }
-    ensures few { IfSome result (λ is. length is.now ≤ 5) }
-{
-    match item {
-        Item::OpenList => at_open(sign),
-        Item::CloseList => at_close(sign),
-        Item::Command => at_command(sign),
-        Item::AName => at_name(sign),
-        Item::AKeyword => at_keyword(sign),
-        Item::ANumeral => at_numeral(sign),
-        Item::AZero => at_zero(sign),
-        Item::ASort => at_sort(sign),
-        Item::Sorts => at_sorts(sign),
-        Item::ATerm => at_term(sign),
-        Item::Terms => at_terms(sign),
-        Item::Assumptions => at_assumptions(sign),
-        Item::AnUnderscore => at_underscore(sign),
-        Item::ABitVec => at_bitvec(sign),
-        Item::ANot => at_not(sign),
-        Item::Anything => at_anything(sign),
-    }
-}
-
-// What is expected in place of the item once the token is read.
-pub fn replacement(item: Item, sign: Sign) -> Option<&'static [Item]>
-    ensures value { option_map (λ x. x.now) result ≡ replacement item sign }
-    ensures few { IfSome result (λ is. length is.now ≤ 5) }
-{
-    replaced(item, sign)
 }

@@ -7,7 +7,7 @@ ghost use Rattle.grammar.specs.Marks.{lexeme_of, sign, symbol_or};
 use tokens::{Kind, Token, bytes_of};
 use words::{Word, same, word_of};
 
-#[derive(Clone, Copy)]
+#[derive(Clone, Copy, Debug, PartialEq, Eq)]
 pub enum Sign {
     Open,
     Close,

@@ -9,4 +9,4 @@ invariant-loop-token l =
     (length l.items ≡ 16388)
     × (l.top ≤ 16388)
     × (16386 ≤ l.top + 4 * l.token-index)
-    × (run (drop l.top l.items) (marks l.text (drop l.token-index l.tokens)) ≡ fitted l.text l.tokens)
+    × (run (drop l.top l.items) (marks l.tokens.text.now (drop l.token-index l.tokens.rows.now)) ≡ fitted l.tokens.text.now l.tokens.rows.now)

@@ -1,10 +1,18 @@
-use Rattle.std.proofs.Common.{sym, subst}
-use Rattle.forms.specs.Laws.{Reading}
-use Rattle.forms.proofs.Whole.{reading}
+use Rattle.std.proofs.Common.{rules}
+use Rattle.forms.proofs.Whole.{reading_of, three_tokens}
 use Rattle.forms.proofs.read.Goals as goal
 
-pub returns : goal.returns
-returns c = record {
-  value = c.read_form.ensures;
-  law = subst (Reading c.args.text.now c.args.tokens.now) (sym c.read_form.ensures) (reading c.args.text.now c.args.tokens.now);
-}
+pub returns-in_err-map_err-clause-law : goal.returns-in_err-map_err-clause-law
+returns-in_err-map_err-clause-law c = reading_of _ _ _ (search rules)
+
+pub returns-in-Some-clause-law : goal.returns-in-Some-clause-law
+returns-in-Some-clause-law c = reading_of _ _ _ (search rules)
+
+pub returns-in_err-map_err-2-clause-law : goal.returns-in_err-map_err-2-clause-law
+returns-in_err-map_err-2-clause-law c = reading_of _ _ _ (search rules)
+
+pub command_of-requires : goal.command_of-requires
+command_of-requires c = three_tokens c.args.tokens.text.now c.args.tokens.rows.now (search rules)
+
+pub returns-clause-law : goal.returns-clause-law
+returns-clause-law c = reading_of _ _ _ (search rules)

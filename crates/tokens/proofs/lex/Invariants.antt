@@ -3,7 +3,7 @@ use Rattle.tokens.proofs.Tables.{Sofar}
 use Rattle.tokens.proofs.lex.Given as goal
 
 abbrev pub invariant-loop-token : goal.invariant-loop-token
-invariant-loop-token l = Sofar l.text l.table l.count l.at
+invariant-loop-token l = Sofar l.text.bytes.now l.table l.count l.at
 
 abbrev pub decreases-loop-token : goal.decreases-loop-token
-decreases-loop-token l = length l.text - l.at
+decreases-loop-token l = length l.text.bytes.now - l.at

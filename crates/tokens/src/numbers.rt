@@ -1,0 +1,87 @@
+// The numbers that numerals and `#` literals write.
+ghost use Rattle.std.specs.Prelude.{◌≡◌, ◌+◌, ◌*◌, ◌<◌, ◌≤◌, length, IfSome};
+ghost use Rattle.std.specs.Option.{option_map};
+ghost use Rattle.tokens.specs.Numbers.{digit_of, digit_in, numeral, low16, value_of, literal};
+
+// The value of a hexadecimal digit.
+fn digit_of(byte: u8) -> Option<u16>
+    ensures value { result ≡ digit_of byte }
+    ensures small { IfSome result (λ d. d < 16) }
+{
+    match byte {
+        b'0'..=b'9' => Some((byte - b'0') as u16),
+        b'a'..=b'f' => Some((byte - b'a') as u16 + 10),
+        b'A'..=b'F' => Some((byte - b'A') as u16 + 10),
+        _ => None,
+    }
+}
+
+// The value of a digit in a base.
+fn digit_in(base: u16, byte: u8) -> Option<u16>
+    ensures value { result ≡ digit_in base (digit_of byte) }
+    ensures small { IfSome result (λ d. d < 16) }
+{
+    digit_of(byte).filter(|digit| *digit < base)
+}
+
+// The value of a numeral: decimal digits with no leading zero, at most 65,535.
+#[tactic(auto, unfolding(crate::specs::Numbers::numeral))]
+pub(crate) fn numeral(run: &[u8]) -> Option<u16>
+    ensures { result ≡ numeral run.now }
+{
+    if let [b'0', _, ..] = run {
+        return None;
+    }
+    let mut value: u16 = 0;
+    for byte in run {
+        let digit = digit_in(10, *byte)?;
+        value = value.checked_mul(10)?.checked_add(digit)?;
+    }
+    Some(value)
+}
+
+// One digit more behind a value; the lowest 16 bits.
+fn shifted(base: u16, value: u16, digit: u16) -> u16
+    requires base { base ≤ 16 }
+    requires digit { digit < 16 }
+    ensures { result ≡ low16 (base * value + digit) }
+{
+    ((base as u32 * value as u32 + digit as u32) % 65536) as u16
+}
+
+fn value_of(base: u16, run: &[u8]) -> Option<u16>
+    requires { base ≤ 16 }
+    ensures { result ≡ value_of base run.now }
+{
+    if run.is_empty() {
+        return None;
+    }
+    let mut value: u16 = 0;
+    for byte in run {
+        value = shifted(base, value, digit_in(base, *byte)?);
+    }
+    Some(value)
+}
+
+// The width and value of digits of so many bits each.
+fn digits(base: u16, bits: usize, run: &[u8]) -> Option<(usize, u16)>
+    requires base { base ≤ 16 }
+    requires bits { bits ≤ 4 }
+    requires few { length run.now ≤ 4096 }
+    ensures { result ≡ option_map (λ v. (bits * length run.now, v)) (value_of base run.now) }
+{
+    Some((bits * run.len(), value_of(base, run)?))
+}
+
+// The width and value of a `#` literal.
+#[tactic(auto, unfolding(crate::specs::Numbers::literal))]
+pub(crate) fn literal(run: &[u8]) -> Option<(usize, u16)>
+    requires { length run.now ≤ 4096 }
+    ensures { result ≡ literal run.now }
+{
+    match run {
+        [b'#', b'b', figures @ ..] => digits(2, 1, figures),
+        [b'#', b'x', figures @ ..] => digits(16, 4, figures),
+        _ => None,
+    }
+}
