@@ -27,5 +27,5 @@ pub example_tree : tree_of (marks text tokens)
     ≡ command 0 1
     (assert (apply 8 (record { bytes = codes "="; at = 9 }) (term_symbol (record { bytes = codes "a"; at = 11 })) (more_terms (constant 2 1 13) no_terms) 17))
     18
-unfolding words.same words.spells words.word_of
+unfolding words.same words.word_of
 example_tree = refl

@@ -4,7 +4,7 @@ use Rattle.std.specs.Option.{option_map}
 use Rattle.words.specs.declared.Word.{Word}
 use Rattle.words.specs.declared.Word.TheVariants as words
 use Rattle.words.specs.Words.{same}
-use Rattle.words.proofs.Spellings.{same_equal}
+use Rattle.words.proofs.Found.{same_equal}
 use Rattle.grammar.specs.declared.signs.Sign.TheVariants.{Symbol, BitVec, Not}
 use Rattle.grammar.specs.declared.items.Item.{Item}
 use Rattle.grammar.specs.declared.items.Item.TheVariants as items

@@ -5,7 +5,7 @@ ghost use Rattle.words.specs.Words.{word_of};
 ghost use Rattle.grammar.specs.Marks.{lexeme_of, sign, symbol_or};
 
 use tokens::{Kind, Token, bytes_of};
-use words::{Word, same, word_of};
+use words::{Word, word_of};
 
 #[derive(Clone, Copy, Debug, PartialEq, Eq)]
 pub enum Sign {
@@ -21,13 +21,14 @@ pub enum Sign {
     Constant,
 }
 
+#[tactic(auto, using(words::proofs::Found::same_is))]
 fn name_sign(name: &[u8]) -> Sign
     ensures { result ≡ sign (symbol_or (word_of name.now) name.now) }
 {
     match word_of(name) {
         Some(word) => Sign::Reserved(word),
-        None if same(name, b"BitVec") => Sign::BitVec,
-        None if same(name, b"not") => Sign::Not,
+        None if name == b"BitVec".as_slice() => Sign::BitVec,
+        None if name == b"not".as_slice() => Sign::Not,
         None => Sign::Symbol,
     }
 }

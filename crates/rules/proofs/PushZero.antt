@@ -10,5 +10,5 @@ use Rattle.rules.specs.Records.{reading}
 use Rattle.rules.specs.Laws.{push_zero}
 
 pub push_zero_read : reading push_zero ≡ Ok (Push 0 6)
-unfolding reading chars.class_of words.same words.spells words.word_of numbers.numeral numbers.literal lexing.tokens_from machine.replacement
+unfolding reading chars.class_of words.same words.word_of numbers.numeral numbers.literal lexing.tokens_from machine.replacement
 push_zero_read = refl

@@ -24,15 +24,15 @@ pop-one = told (codes "(pop 1)")
 
 -- after a surplus pop the level still stands, so the next pop is accepted
 pub surplus_fails : Fails surplus
-unfolding refusal reading chars.class_of words.same words.spells words.word_of numbers.numeral numbers.literal lexing.tokens_from machine.replacement
+unfolding refusal reading chars.class_of words.same words.word_of numbers.numeral numbers.literal lexing.tokens_from machine.replacement
 surplus_fails laws = let e : ◌≡◌ {A = ℕ} 32 0 = (laws.table (logic ∷ push-one ∷ pop_two ∷ []) pop-one).0 in omega arith
 
 -- a logic is accepted
 pub refusing_fails : Fails refusing
-unfolding refusal reading chars.class_of words.same words.spells words.word_of numbers.numeral numbers.literal lexing.tokens_from machine.replacement
+unfolding refusal reading chars.class_of words.same words.word_of numbers.numeral numbers.literal lexing.tokens_from machine.replacement
 refusing_fails laws = let e : ◌≡◌ {A = ℕ} 30 0 = (laws.table [] logic).0 in omega arith
 
 -- a second logic is refused
 pub forgetful_fails : Fails forgetful
-unfolding refusal reading chars.class_of words.same words.spells words.word_of numbers.numeral numbers.literal lexing.tokens_from machine.replacement
+unfolding refusal reading chars.class_of words.same words.word_of numbers.numeral numbers.literal lexing.tokens_from machine.replacement
 forgetful_fails laws = let e : ◌≡◌ {A = ℕ} 0 30 = (laws.table (logic ∷ []) logic).0 in omega arith

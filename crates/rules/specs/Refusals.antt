@@ -1,7 +1,8 @@
 -- Number and place of each fault.
-use Rattle.std.specs.Prelude.{ℕ}
+use Rattle.std.specs.Prelude.{ℕ, Ok, Err, Result}
 use Rattle.tokens.specs.declared.TokenFault.TheVariants.{Unexpected, Malformed, TooLong}
 use Rattle.forms.specs.declared.FormFault.TheVariants.{Unclosed, Nested, Outside}
+use Rattle.rules.specs.declared.Said.{Said}
 use Rattle.rules.specs.declared.Fault.{Fault}
 use Rattle.rules.specs.declared.Fault.TheVariants.{Page, Text, Ended, Token, Form, Mode, Logic, Depth}
 
@@ -32,3 +33,12 @@ place_of (Form (Outside p)) = p
 place_of Mode = 0
 place_of (Logic p) = p
 place_of (Depth p) = p
+
+-- The same of an outcome: 0 and 0 for an accepted command.
+abbrev pub number_in : Result Said Fault → ℕ
+number_in (Ok w) = 0
+number_in (Err f) = number_of f
+
+abbrev pub place_in : Result Said Fault → ℕ
+place_in (Ok w) = 0
+place_in (Err f) = place_of f

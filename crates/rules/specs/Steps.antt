@@ -10,7 +10,7 @@ use Rattle.rules.specs.declared.Fault.TheVariants as faults
 use Rattle.rules.specs.declared.Said.{Said}
 use Rattle.rules.specs.declared.Said.TheVariants.{Success, Unsupported}
 use Rattle.rules.specs.declared.Reply.{Reply}
-use Rattle.rules.specs.Refusals.{number_of, place_of}
+use Rattle.rules.specs.Refusals.{number_of, place_of, number_in, place_in}
 use Rattle.rules.specs.Records.{Record, new_record, Request, set_logic, push, pop, reason, reset, exit, unsupported, request_of, reading, obeyed}
 
 -- What stands, the mode, and whether an `exit` was accepted.
@@ -82,10 +82,16 @@ abbrev pub spoken : Result Said Fault → Answer
 spoken (Ok w) = record { number = 0; place = 0; bytes = printed w }
 spoken (Err f) = record { number = number_of f; place = place_of f; bytes = complaint (number_of f) (place_of f) }
 
--- The reply has the answer's number and place; the page has its bytes at the front, as many as the reply counts, and keeps what it held behind them.
+-- The bytes of an accepted command are its word.
+abbrev pub Worded : Result Said Fault → List ℕ → Type 0
+Worded (Ok w) bs = bs ≡ printed w
+Worded (Err f) bs = Unit {0}
+
+-- The reply has the answer's number and place, by which its fault is told, and its word; the page has its bytes at the front, as many as the reply counts, and keeps what it held behind them.
 pub record Replied (a : Answer) (page page' : List ℕ) (r : Reply) : Type 0 where
-  pub number : r.number ≡ a.number
-  pub place : r.place ≡ a.place
+  pub number : number_in r.outcome ≡ a.number
+  pub place : place_in r.outcome ≡ a.place
+  pub word : Worded r.outcome a.bytes
   pub count : r.count ≡ length a.bytes
   pub front : take r.count page' ≡ a.bytes
   pub within : r.count ≤ length page

@@ -4,19 +4,19 @@
 ghost use Rattle.std.specs.Prelude.{◌≡◌};
 ghost use Rattle.rules.specs.declared.Fault.TheVariants.{Token, Form};
 ghost use Rattle.rules.specs.Wrong.{Fails, surplus, refusing, forgetful};
-ghost use Rattle.rules.specs.Refusals.{number_of, place_of};
+ghost use Rattle.rules.specs.Refusals.{number_of, place_of, number_in, place_in};
 
 use forms::FormFault;
 use tokens::TokenFault;
 
-#[derive(Clone, Copy)]
+#[derive(Clone, Copy, Debug, PartialEq, Eq)]
 pub enum Logic {
     QfUf,
     QfBv,
 }
 
 // Where the session stands between its commands.
-#[derive(Clone, Copy)]
+#[derive(Clone, Copy, Debug, PartialEq, Eq)]
 pub enum Mode {
     // no logic is set
     Start,
@@ -29,7 +29,7 @@ pub enum Mode {
 }
 
 // Why a command is refused, by the layer that found it.
-#[derive(Clone, Copy)]
+#[derive(Clone, Copy, Debug, PartialEq, Eq)]
 pub enum Fault {
     // the page has less than 8,192 bytes
     Page,
@@ -89,42 +89,59 @@ impl Fault {
         ensures { result ≡ place_of self }
     {
         match self {
-            Fault::Page => 0,
-            Fault::Text => 0,
-            Fault::Ended => 0,
-            Fault::Token(TokenFault::Unexpected(place)) => place,
-            Fault::Token(TokenFault::Malformed(place)) => place,
-            Fault::Token(TokenFault::TooLong(place)) => place,
-            Fault::Form(FormFault::Unclosed(place)) => place,
-            Fault::Form(FormFault::Nested(place)) => place,
-            Fault::Form(FormFault::Outside(place)) => place,
-            Fault::Mode => 0,
-            Fault::Logic(place) => place,
-            Fault::Depth(place) => place,
+            Fault::Page | Fault::Text | Fault::Ended | Fault::Mode => 0,
+            Fault::Token(
+                TokenFault::Unexpected(place)
+                | TokenFault::Malformed(place)
+                | TokenFault::TooLong(place),
+            ) => place,
+            Fault::Form(
+                FormFault::Unclosed(place) | FormFault::Nested(place) | FormFault::Outside(place),
+            ) => place,
+            Fault::Logic(place) | Fault::Depth(place) => place,
         }
     }
 }
 
 // What an accepted command prints.
-#[derive(Clone, Copy)]
+#[derive(Clone, Copy, Debug, PartialEq, Eq)]
 pub enum Said {
     Success,
     Unsupported,
 }
 
-// What comes back for a command: 0 or the refusal's number, its place, and how many bytes were written.
-#[derive(Clone, Copy)]
+// What comes back for a command, and how many bytes of its page were written.
+#[derive(Clone, Copy, Debug, PartialEq, Eq)]
 pub struct Reply {
-    pub number: u8,
-    pub place: usize,
+    pub outcome: Result<Said, Fault>,
     pub count: usize,
 }
 
+impl Reply {
+    // The number of the refusal, 0 for an accepted command.
+    pub fn number(self) -> u8
+        ensures { result ≡ number_in self.outcome }
+    {
+        match self.outcome {
+            Ok(_) => 0,
+            Err(fault) => fault.number(),
+        }
+    }
+
+    // The place that the refusal points at, 0 for an accepted command.
+    pub fn place(self) -> usize
+        ensures { result ≡ place_in self.outcome }
+    {
+        match self.outcome {
+            Ok(_) => 0,
+            Err(fault) => fault.place(),
+        }
+    }
+}
+
 // The laws have teeth: they exclude a session that pops on a surplus pop, one that refuses everything, and one that forgets.
-pub fn wrong_sessions_fail() -> u8
+pub fn wrong_sessions_fail()
     ensures surplus { Fails surplus }
     ensures refusing { Fails refusing }
     ensures forgetful { Fails forgetful }
-{
-    0
-}
+{}

@@ -8,15 +8,9 @@ ghost use Rattle.script.specs.Transcripts.{on, transcript};
 
 use page::error;
 use pieces::next_piece;
+use rules::Fault;
 use session::store::Session;
 use std::alloc::{AllocError, Global};
-
-// Puts bytes behind what is there.
-fn append(out: &mut Vec<u8>, bytes: &[u8]) -> Result<(), AllocError>
-    ensures { OnOk result (out.new.items ≡ out.old.items ++ bytes.now) }
-{
-    out.extend_from_slice(bytes)
-}
 
 // Gives one piece to the session, and puts its response behind the others.
 fn answer_piece(
@@ -29,8 +23,7 @@ fn answer_piece(
     ensures out { OnOk result (out.new.items ≡ out.old.items ++ (answer (view session.old) (on text.now)).bytes) }
 {
     let reply = session.command(text, page);
-    let count = reply.count;
-    append(out, &page[0..count])
+    out.extend_from_slice(&page[..reply.count])
 }
 
 // The responses to a script; only want of memory keeps them back.
@@ -40,19 +33,24 @@ pub fn answer_script(heap: Global, script: &[u8]) -> Result<Vec<u8>, AllocError>
     let mut out = Vec::new(heap);
     let mut page = [0; 8192];
     if script.len() > 65536 {
-        let count = error(&mut page, 2, 0);
-        append(&mut out, &page[0..count])?;
+        let fault = Fault::Text;
+        let count = error(&mut page, fault.number(), fault.place());
+        out.extend_from_slice(&page[..count])?;
         return Ok(out);
     }
     let mut session = Session::new();
     let mut at = 0;
     while let Some(piece) = next_piece(script, at) {
-        let from = piece.from;
-        at = piece.end;
-        answer_piece(&mut session, &script[from..at], &mut page, &mut out)?;
+        answer_piece(
+            &mut session,
+            &script[piece.from..piece.end],
+            &mut page,
+            &mut out,
+        )?;
         if session.has_ended() {
             return Ok(out);
         }
+        at = piece.end;
     }
     Ok(out)
 }

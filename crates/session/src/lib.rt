@@ -1,7 +1,7 @@
 // A solver session: it is given command texts, one at a time, and answers each.
 #![tactic(auto)]
 
-ghost use Rattle.std.specs.Prelude.{◌≡◌, ℕ, ◌≤◌, length, Ok, nat_lt};
+ghost use Rattle.std.specs.Prelude.{◌≡◌, ◌≤◌, length, Ok, nat_lt};
 ghost use Rattle.page.specs.Pages.{Wrote};
 ghost use Rattle.tokens.specs.Lexing.{bytes_of};
 ghost use Rattle.rules.specs.declared.Mode.TheVariants.{Assert};
@@ -17,7 +17,8 @@ use forms::Command;
 use grammar::items::Item;
 use page::{error, put};
 use rules::{Fault, Logic, Mode, Reply, Said};
-use tokens::{Kind, Token, bytes_of};
+use tokens::text::Text;
+use tokens::{Kind, Token, bytes_of, lex};
 use words::same;
 
 pub mod store;
@@ -43,17 +44,16 @@ fn asks_reason(keyword: &[u8]) -> bool
 }
 
 // The command that the text is. The tables are room to read in.
+#[tactic(auto, unfolding(rules::specs::Records::reading))]
 fn read(
-    text: &[u8],
-    tokens: &mut [Token; 4096],
+    text: Text<'_>,
+    table: &mut [Token; 4096],
     items: &mut [Item; 16388],
 ) -> Result<Command, Fault>
-    requires { length text.now ≤ 4096 }
-    ensures { result ≡ reading text.now }
+    ensures { result ≡ reading text.entry.bytes.now }
 {
-    let count = tokens::lex(text, tokens)?;
-    let command = forms::read(text, &tokens[0..count], items)?;
-    Ok(command)
+    let tokens = lex(text, table)?;
+    Ok(forms::read(tokens, items)?)
 }
 
 impl Session {
@@ -70,13 +70,9 @@ impl Session {
     fn set_logic(&mut self, text: &[u8], name: Token) -> Result<Said, Fault>
         ensures { (view self.new, result) ≡ logic_set (view self.old) (logic_of (bytes_of text.now name)) name.from }
     {
-        match logic_of(bytes_of(text, name)) {
-            Some(logic) => {
-                self.logic = Some(logic);
-                self.succeed()
-            }
-            None => Err(Fault::Logic(name.from)),
-        }
+        let logic = logic_of(bytes_of(text, name)).ok_or(Fault::Logic(name.from))?;
+        self.logic = Some(logic);
+        self.succeed()
     }
 
     fn push(&mut self, levels: u16, place: usize) -> Result<Said, Fault>
@@ -149,13 +145,11 @@ impl Session {
     fn act(&mut self, text: &[u8]) -> Result<Said, Fault>
         ensures { (view self.new, result) ≡ acted (view self.old) text.now }
     {
-        if text.len() > 4096 {
-            return Err(Fault::Text);
-        }
+        let short = Text::new(text).ok_or(Fault::Text)?;
         if self.ended {
             return Err(Fault::Ended);
         }
-        let command = read(text, &mut self.tokens, &mut self.items)?;
+        let command = read(short, &mut self.tokens, &mut self.items)?;
         self.execute(text, command)
     }
 }
@@ -172,57 +166,43 @@ fn print(page: &mut [u8], said: Said) -> usize
 }
 
 // The reply to a command, with its bytes at the front of the page.
-fn reply(page: &mut [u8], res: Result<Said, Fault>) -> Reply
+fn reply(page: &mut [u8], outcome: Result<Said, Fault>) -> Reply
     requires { 64 ≤ length page.old }
-    ensures { Replied (spoken res) page.old page.new result }
+    ensures { Replied (spoken outcome) page.old page.new result }
 {
-    match res {
-        Ok(said) => Reply {
-            number: 0,
-            place: 0,
-            count: print(page, said),
-        },
-        Err(fault) => {
-            let number = fault.number();
-            let place = fault.place();
-            Reply {
-                number,
-                place,
-                count: error(page, number, place),
-            }
-        }
-    }
+    let count = match outcome {
+        Ok(said) => print(page, said),
+        Err(fault) => error(page, fault.number(), fault.place()),
+    };
+    Reply { outcome, count }
 }
 
 impl Session {
     // A session in which nothing stands.
+    #[tactic(auto, using(rules::proofs::Whole::laws))]
     pub fn new() -> Session
         ensures view { view result ≡ new_state }
         ensures laws { Laws session }
     {
-        empty()
+        Session {
+            logic: None,
+            depth: 0,
+            mode: Mode::Start,
+            ended: false,
+            tokens: [Token {
+                kind: Kind::Opening,
+                from: 0,
+                end: 0,
+            }; 4096],
+            items: [Item::OpenList; 16388],
+        }
     }
 
     // An `exit` was accepted.
     pub fn has_ended(&self) -> bool
         ensures { result ≡ (view self.now).ended }
     {
-        let ended = self.ended;
-        ended
-    }
-
-    fn respond(&mut self, text: &[u8], page: &mut [u8]) -> Reply
-        ensures step { view self.new ≡ step (view self.old) (given text.now page.old) }
-        ensures answer { Replied (answer (view self.old) (given text.now page.old)) page.old page.new result }
-    {
-        if is_small(page) {
-            return Reply {
-                number: 1,
-                place: 0,
-                count: 0,
-            };
-        }
-        reply(page, self.act(text))
+        matches!(self, Session { ended: true, .. })
     }
 
     // Gives a command: a text, and a page for the response.
@@ -231,7 +211,14 @@ impl Session {
         ensures answer { Replied (answer (view self.old) (given text.now page.old)) page.old page.new result }
         ensures turn { InTurn (view self.old) (given text.now page.old) page.old page.new result (view self.new) }
     {
-        self.respond(text, page)
+        if is_small(page) {
+            return Reply {
+                outcome: Err(Fault::Page),
+                count: 0,
+            };
+        }
+        let outcome = self.act(text);
+        reply(page, outcome)
     }
 }
 
@@ -240,29 +227,4 @@ fn is_small(page: &[u8]) -> bool
     ensures { result ≡ nat_lt (length page.now) 8192 }
 {
     page.len() < 8192
-}
-
-fn empty() -> Session
-    ensures { view result ≡ new_state }
-{
-    Session {
-        logic: None,
-        depth: 0,
-        mode: Mode::Start,
-        ended: false,
-        tokens: no_tokens(),
-        items: no_items(),
-    }
-}
-
-fn no_tokens() -> [Token; 4096] {
-    [Token {
-        kind: Kind::Opening,
-        from: 0,
-        end: 0,
-    }; 4096]
-}
-
-fn no_items() -> [Item; 16388] {
-    [Item::OpenList; 16388]
 }

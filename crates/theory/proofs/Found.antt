@@ -1,7 +1,7 @@
 -- What a name is found as in a table of spellings.
 use Rattle.std.proofs.Common.{◌≡◌, ℕ, Bool, true, false, cond, List, [], ◌∷◌, Some, None, Option, sym, refl, subst, arith}
 use Rattle.words.specs.Words.{same}
-use Rattle.words.proofs.Spellings.{same_equal}
+use Rattle.words.proofs.Found.{same_equal}
 use Rattle.theory.specs.Spelled.{first}
 
 module _ {A : Type 0} where

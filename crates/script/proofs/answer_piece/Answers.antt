@@ -1,7 +1,7 @@
-use Rattle.std.proofs.Common.{◌≡◌, ◌-◌, ◌++◌, length, take, vec_items, ap, ◌∙◌, arith, rules}
+use Rattle.std.proofs.Common.{◌≡◌, ◌-◌, length, take, ap, ◌∙◌, arith, rules}
 use Rattle.rules.specs.Table.{answer, step}
 use Rattle.session.specs.Views.{view}
-use Rattle.std.proofs.lemmas.Result.{IfOk-weaker}
+use Rattle.script.proofs.Printing.{extended}
 use Rattle.script.proofs.answer_piece.Goals as goal
 
 pub returns : goal.returns
@@ -11,5 +11,5 @@ returns c =
     let front = ap (λ k. take k c.command-reply.new.page) whole ∙ c.command-reply.ensures.answer.front ∙ ap (λ n. (answer (view c.args.session.now) (record { text = c.args.text.now; room = n })).bytes) long in
     record {
       state = c.command-reply.ensures.step ∙ ap (λ n. step (view c.args.session.now) (record { text = c.args.text.now; room = n })) long;
-      out = IfOk-weaker c.append.result _ _ (λ u h. h ∙ ap (λ l. vec_items c.args.out.now ++ l) front) c.append.ensures;
+      out = extended _ _ _ _ _ (search rules) front;
     }
