@@ -40,7 +40,7 @@ fn logic_of(name: &[u8]) -> Option<Logic>
 fn asks_reason(keyword: &[u8]) -> bool
     ensures { result ≡ asks_reason keyword.now }
 {
-    same(keyword, b":reason-unknown")
+    keyword == b":reason-unknown".as_slice()
 }
 
 // The command that the text is. The tables are room to read in.
