@@ -14,19 +14,5 @@ loop-token-init c = (
   ap (λ stack. run stack (marks c.args.tokens.text.now c.args.tokens.rows.now)) (two_last c.args.items.now 16386 OpenList Command (search rules)),
 )
 
-pub returns-in_default : goal.returns-in_default
-returns-in_default c = sym (wrong-run c.args.tokens.text.now c.args.tokens.rows.now c.loop-token.token-index (drop c.loop-token.top c.loop-token.items) no_token c.sign_of-sign.result (search rules) c.sign_of-sign.ensures (search rules)) ∙ c.loop-token.invariant.3
-
-pub loop-token-preserved : goal.loop-token-preserved
-loop-token-preserved c = (
-  search rules,
-  search rules,
-  omega (arith, c.in-Some.ensures.bound),
-  sym (more-run c.args.tokens.text.now c.args.tokens.rows.now c.loop-token.token-index (drop c.loop-token.top c.loop-token.items) no_token c.sign_of-sign.result _ (search rules) c.sign_of-sign.ensures c.in-Some.ensures.step) ∙ c.loop-token.invariant.3,
-)
-
-pub returns-then-top-eq16388 : goal.returns-then-top-eq16388
-returns-then-top-eq16388 c = sym (nothing_left c.loop-token.items c.loop-token.top (search rules)) ∙ sym (end_run c.args.tokens.text.now c.args.tokens.rows.now c.loop-token.token-index (drop c.loop-token.top c.loop-token.items) (search rules)) ∙ c.loop-token.invariant.3
-
 pub returns-else-top-eq16388 : goal.returns-else-top-eq16388
 returns-else-top-eq16388 c = sym (something_left c.loop-token.items c.loop-token.top OpenList (search rules)) ∙ sym (end_run c.args.tokens.text.now c.args.tokens.rows.now c.loop-token.token-index (drop c.loop-token.top c.loop-token.items) (search rules)) ∙ c.loop-token.invariant.3

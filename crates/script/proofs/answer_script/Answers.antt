@@ -12,11 +12,3 @@ loop-piece-init c = (
   ap (λ s. s.ended) c.new-session.ensures.view,
   ap (λ v. v ++ responses_from (view c.new-session.result) (pieces c.args.script.now)) c.new-out.ensures.items ∙ ap (λ s. responses_from s (pieces c.args.script.now)) c.new-session.ensures.view ∙ begins c.args.script.now (search rules),
 )
-
-pub loop-piece-preserved : goal.loop-piece-preserved
-loop-piece-preserved c = (
-  search rules,
-  search rules,
-  search rules,
-  one_more _ _ _ _ _ _ _ _ (search rules) c.answer_piece.ensures.state (search rules) c.in-Some.ensures.next c.loop-piece.invariant.3,
-)

@@ -11,7 +11,3 @@ returns-in_err-checked_mul c = search (rules, at_drop_more (decimal_from c.loop-
 pub returns-in_err-value : goal.returns-in_err-value
 unfolding numeral
 returns-in_err-value c = search (rules, at_drop_more (decimal_from c.loop-byte.value), grows)
-
-pub returns : goal.returns
-unfolding numeral
-returns c = search (rules, at_drop_all all_digits, at_drop_all (decimal_from c.loop-byte.value))

@@ -6,6 +6,3 @@ use Rattle.tokens.proofs.numbers.value_of.Goals as goal
 
 pub loop-byte-preserved : goal.loop-byte-preserved
 loop-byte-preserved c = search (rules, at_drop_more (number_from c.args.base c.loop-byte.value), low_step)
-
-pub returns : goal.returns
-returns c = search (rules, at_drop_all (number_from c.args.base c.loop-byte.value))
