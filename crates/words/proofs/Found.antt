@@ -1,5 +1,6 @@
 -- What a name is found as in a table of spellings.
-use Rattle.std.proofs.Common.{◌≡◌, ℕ, true, List, [], ◌∷◌, Some, refl, ap, arith, rules, eqb, ◌&&◌}
+use Rattle.std.proofs.Common.{cond, ◌≡◌, ℕ, true, List, [], ◌∷◌, Some, refl, ap, arith, rules, eqb, ◌&&◌}
+use Rattle.std.specs.List.{find}
 use Rattle.std.specs.Cmp.Lexicographic.{pointwise}
 use Rattle.std.proofs.lemmas.Slice.Eq.{compares_Decides}
 use Rattle.words.specs.Spelled.{same, first}
@@ -17,6 +18,11 @@ unfolding same
 same_equal xs ys h = (compares_Decides same (search rules) xs ys).0 h
 
 module _ {A : Type 0} where
+  -- `find` in the table, by `==` with the spelling.
+  pub find_is : (written : A → List ℕ) (xs : List A) (bs : List ℕ) → find (λ x. pointwise eqb bs (written x)) xs ≡ first written xs bs
+  find_is written [] bs = refl
+  find_is written (x ∷ xs) bs = rw (same_is bs (written x)) (ap (λ r. cond (same bs (written x)) (Some x) r) (find_is written xs bs))
+
   -- What is found has the name as its spelling.
   pub found_spells : (written : A → List ℕ) (xs : List A) (bs : List ℕ) (x : A) → first written xs bs ≡ Some x → written x ≡ bs
   found_spells written [] bs x e = cc

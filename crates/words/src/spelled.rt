@@ -12,14 +12,8 @@ pub trait Spelled {
 }
 
 // The first of the table whose spelling the name is.
-// A loop: after `find` the check does not see what the closure's call of `spelling` gave.
 pub fn first<S: Spelled + Copy>(table: &[S], name: &[u8]) -> Option<S>
     ensures { result ≡ first S.written table.now name.now }
 {
-    for item in table {
-        if name == item.spelling() {
-            return Some(*item);
-        }
-    }
-    None
+    table.iter().find(|item| name == item.spelling()).copied()
 }

@@ -1,11 +1,12 @@
-use Rattle.std.proofs.Common.{rules}
-use Rattle.std.proofs.lemmas.List.{at_drop_more}
-use Rattle.words.specs.Spelled.{first}
-use Rattle.words.proofs.Found.{same_is}
+use Rattle.std.proofs.Common.{eqb, rules, ◌∙◌}
+use Rattle.std.proofs.lemmas.Iterator.{YieldsList-from_slice}
+use Rattle.std.proofs.lemmas.Iterator.Search.{find_from_yields_List}
+use Rattle.std.specs.Cmp.Lexicographic.{pointwise}
+use Rattle.words.proofs.Found.{find_is}
 use Rattle.words.proofs.spelled.first.Goals as goal
 
-pub returns-then-eq : goal.returns-then-eq
-returns-then-eq g c = search (rules, same_is, at_drop_more (λ xs. first g.S.Spelled.written xs c.args.name.now))
-
-pub loop-item-preserved : goal.loop-item-preserved
-loop-item-preserved g c = search (rules, same_is, at_drop_more (λ xs. first g.S.Spelled.written xs c.args.name.now))
+pub returns : goal.returns
+returns g c =
+    c.copied.ensures
+    ∙ find_from_yields_List (λ x. pointwise eqb c.args.name.now (g.S.Spelled.written x)) _ _ _ c.find.ensures.ran (YieldsList-from_slice c.args.table.now cc) (λ x b q k. search rules)
+    ∙ find_is g.S.Spelled.written c.args.table.now c.args.name.now
