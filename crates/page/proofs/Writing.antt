@@ -1,21 +1,13 @@
--- Writes into a page, one after another, and the room for a number.
-use Rattle.std.proofs.Common.{◌≡◌, ℕ, ◌+◌, ◌-◌, ◌^◌, ◌<◌, ◌≤◌, List, ◌++◌, length, take, drop, decimal, sym, ap, ◌∙◌, append_assoc, arith, lit<, length-append}
+-- Pages after writes, and the room for a number.
+use Rattle.std.proofs.Common.{◌≡◌, ℕ, ◌+◌, ◌-◌, ◌^◌, ◌<◌, ◌≤◌, List, length, drop, decimal, sym, ap, ◌∙◌, arith, lit<}
 use Rattle.std.proofs.lemmas.Fmt.{length-decimal-le}
 use Rattle.std.proofs.lemmas.List.{drop-drop}
-use Rattle.page.specs.Pages.{Wrote}
 
 -- pages that are alike from m on are alike from any later place on
 pub drop_later : (m n : ℕ) (xs ys : List ℕ) → m ≤ n → drop m xs ≡ drop m ys → drop n xs ≡ drop n ys
 drop_later m n xs ys h e =
     let k : m + (n - m) ≡ n = omega arith in
     ap (λ j. drop j xs) (sym k) ∙ sym (drop-drop (n - m) m xs) ∙ ap (drop (n - m)) e ∙ drop-drop (n - m) m ys ∙ ap (λ j. drop j ys) k
-
--- a write and one right behind it are a write of both
-pub wrote_more : (p : List ℕ) (at : ℕ) (xs : List ℕ) (p' : List ℕ) (m : ℕ) (ys p'' : List ℕ) (n : ℕ) → Wrote p at xs p' m → Wrote p' m ys p'' n → Wrote p at (xs ++ ys) p'' n
-wrote_more p at xs p' m ys p'' n (f, d, e) (f', d', e') =
-    let long = length-append xs ys in
-    let k : m ≤ n = omega arith in
-    (f' ∙ ap (λ z. z ++ ys) f ∙ append_assoc (take at p) xs ys, d' ∙ drop_later m n p' p k d, omega arith)
 
 -- the room that numbers want
 pub decimal_three : (n : ℕ) → n < 1000 → length (decimal n) ≤ 3
