@@ -1,10 +1,13 @@
 // Cutting a script into pieces: lists with their closing parentheses, stray closing parentheses, and atoms.
 #![tactic(auto)]
 
-ghost use Rattle.std.specs.Prelude.{◌≡◌, ℕ, ◌+◌, ◌<◌, ◌≤◌, Bool, true, false, not, length, drop};
+ghost use Rattle.std.specs.Prelude.{◌≡◌, ℕ, ◌+◌, ◌<◌, ◌≤◌, Bool, true, false, not, List, length, drop};
 ghost use Rattle.std.specs.List.{prefix_len};
-ghost use Rattle.pieces.specs.Cuts.{ends_atom, list_length, atom_length, piece_length, piece, Within, Next};
+ghost use Rattle.std.specs.Iterator.{YieldsFirstRef, item_count};
+ghost use Rattle.pieces.specs.Cuts.{ends_atom, list_length, atom_length, piece_length, piece, pieces, Within, Next};
 ghost use Rattle.pieces.specs.Laws.{OnlyCut};
+
+use std::marker::Model;
 
 // A piece of a script: from its first byte to the end behind its last.
 #[derive(Clone, Copy, Debug, PartialEq, Eq)]
@@ -78,4 +81,39 @@ pub fn next_piece(script: &[u8], at: usize) -> Option<Piece>
         from,
         end: from + piece_len(&script[from..]),
     })
+}
+
+// The pieces that are left of a script, one after the other.
+#[derive(Drop)]
+pub struct Pieces<'a> {
+    rest: &'a [u8],
+}
+
+impl<'a> Model for Pieces<'a> {
+    ghost Value = { List (List ℕ) };
+
+    ghost view = { λ s. pieces s.rest.now };
+}
+
+// Cuts a script into its pieces.
+pub fn cut(script: &[u8]) -> Pieces<'_>
+    ensures value { result ≡ pieces script.now }
+    ensures law { OnlyCut script.now }
+{
+    Pieces { rest: script }
+}
+
+impl<'a> Iterator for Pieces<'a> {
+    type Item = &'a [u8];
+
+    ghost next_gives = { YieldsFirstRef (λ left. left) };
+
+    ghost remaining = { item_count (λ left. left) };
+
+    fn next(&mut self) -> Option<&'a [u8]> {
+        let script = self.rest;
+        let piece = next_piece(script, 0)?;
+        self.rest = &script[piece.end..];
+        Some(&script[piece.from..piece.end])
+    }
 }
