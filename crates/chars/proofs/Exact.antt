@@ -1,6 +1,5 @@
 -- Every byte belongs to exactly one class.
-use Rattle.std.proofs.Common.{◌≡◌, ℕ, Bool, true, false, cond, not, ◌||◌, eqb, refl, arith}
-use mathlib.Core.Bool.{false≢true}
+use Rattle.std.proofs.Common.{◌≡◌, ℕ, Bool, true, cond, not, ◌||◌, eqb, arith}
 use Rattle.std.proofs.lemmas.Bool.Decides.{nat_tests}
 use Rattle.chars.specs.declared.Class.{Class}
 use Rattle.chars.specs.declared.Class.TheVariants.{Blank, Open, Close, Semicolon, Hash, Colon, Digit, Symbol, Stray}
@@ -13,16 +12,7 @@ one b = grind (arith, nat_tests)
 stray : (blank opens closes semicolon hash colon letter digit mark : Bool)
     → not (blank || opens || closes || semicolon || hash || colon || (letter || digit || mark)) ≡ true
     → Stray ≡ cond blank Blank (cond opens Open (cond closes Close (cond semicolon Semicolon (cond hash Hash (cond colon Colon (cond digit Digit (cond (letter || mark) Symbol Stray)))))))
-stray true b c d e f g h i p = absurd (false≢true p)
-stray false true c d e f g h i p = absurd (false≢true p)
-stray false false true d e f g h i p = absurd (false≢true p)
-stray false false false true e f g h i p = absurd (false≢true p)
-stray false false false false true f g h i p = absurd (false≢true p)
-stray false false false false false true g h i p = absurd (false≢true p)
-stray false false false false false false true h i p = absurd (false≢true p)
-stray false false false false false false false true i p = absurd (false≢true p)
-stray false false false false false false false false true p = absurd (false≢true p)
-stray false false false false false false false false false p = refl
+stray blank opens closes semicolon hash colon letter digit mark p = grind (arith, nat_tests)
 
 only : (b : ℕ) (d : Class) → belongs d b ≡ true → d ≡ classes b
 only b Blank h = grind (arith, nat_tests)

@@ -8,11 +8,10 @@ use Rattle.chars.specs.Gaps.{Comment, Gap, none, blank, comment, LastGap}
 
 -- the count at a byte outside comments and in one, by the byte's tests
 outside : (b : ℕ) (s : List ℕ) (semi white : Bool) → eqb b 59 ≡ semi → is_blank b ≡ white → gap false (b ∷ s) ≡ cond semi (suc (gap true s)) (cond white (suc (gap false s)) 0)
-outside b s semi white e h =
-    ap (λ v. cond v (suc (gap true s)) (cond (is_blank b) (suc (gap false s)) 0)) e ∙ ap (λ v. cond semi (suc (gap true s)) (cond v (suc (gap false s)) 0)) h
+outside b s semi white e h = rw (e, h)
 
 inside : (b : ℕ) (s : List ℕ) (stop : Bool) → is_line_end b ≡ stop → gap true (b ∷ s) ≡ suc (gap (not stop) s)
-inside b s stop e = ap (λ v. suc (gap (not v) s)) e
+inside b s stop e = rw e
 
 blank_no_semicolon : (b : ℕ) → is_blank b ≡ true → eqb b 59 ≡ false
 blank_no_semicolon b h = grind (arith, nat_tests)

@@ -1,3 +1,4 @@
+pub mod Counted
 pub mod Exact
 pub mod GapSpelt
 pub mod GapOnly

@@ -2,11 +2,12 @@
 #![tactic(auto)]
 
 ghost use Rattle.std.specs.Prelude.{◌≡◌, ℕ, ◌+◌, ◌≤◌, Bool, true, false, length, drop};
+ghost use Rattle.std.specs.List.{prefix_len};
 ghost use Rattle.chars.specs.Classes.{classes, class_of, is_mark, is_blank, is_word, Exactly};
 ghost use Rattle.chars.specs.Runs.{gap, run};
 ghost use Rattle.chars.specs.Gaps.{Skipped};
 
-#[derive(Clone, Copy)]
+#[derive(Clone, Copy, Debug, PartialEq, Eq)]
 pub enum Class {
     Blank,
     Open,
@@ -45,8 +46,11 @@ fn is_mark(c: char) -> bool
     )
 }
 
-fn sorted_out(byte: u8) -> Class
-    ensures { result ≡ classes byte }
+// The one class of a byte.
+#[tactic(auto, unfolding(crate::specs::Classes::class_of), using(crate::proofs::Exact::exactly))]
+pub fn class_of(byte: u8) -> Class
+    ensures value { result ≡ class_of byte }
+    ensures law { Exactly byte result }
 {
     match char::from(byte) {
         '\t' | '\n' | '\r' | ' ' => Class::Blank,
@@ -60,14 +64,6 @@ fn sorted_out(byte: u8) -> Class
         c if is_mark(c) => Class::Symbol,
         _ => Class::Stray,
     }
-}
-
-// The one class of a byte.
-pub fn class_of(byte: u8) -> Class
-    ensures value { result ≡ class_of byte }
-    ensures law { Exactly byte result }
-{
-    sorted_out(byte)
 }
 
 pub fn is_blank(byte: u8) -> bool
@@ -93,31 +89,32 @@ pub fn skip_gap(text: &[u8], at: usize) -> usize
     ensures within { result ≤ length text.now }
     ensures law { Skipped text.now at result }
 {
-    let mut end = at;
     let mut comment = false;
-    while end < text.len() {
-        let byte = text[end];
-        if comment {
-            comment = byte != b'\n' && byte != b'\r';
-        } else if byte == b';' {
-            comment = true;
-        } else if !is_blank(byte) {
-            return end;
+    for (i, &byte) in text[at..].iter().enumerate() {
+        match char::from(byte) {
+            '\n' | '\r' => comment = false,
+            ';' => comment = true,
+            _ if comment || is_blank(byte) => {}
+            _ => return at + i,
         }
-        end += 1;
     }
-    end
+    text.len()
+}
+
+// How many symbol characters and digits stand at the front.
+fn word_len(text: &[u8]) -> usize
+    ensures value { result ≡ prefix_len is_word text.now }
+    ensures within { result ≤ length text.now }
+{
+    text.iter().take_while(|&&byte| is_word(byte)).count()
 }
 
 // The end of the symbol characters and digits that stand at `at`.
+#[tactic(auto, using(crate::proofs::Counted::run_from))]
 pub fn skip_run(text: &[u8], at: usize) -> usize
     requires { at ≤ length text.now }
     ensures end { result ≡ at + run (drop at text.now) }
     ensures within { result ≤ length text.now }
 {
-    let mut end = at;
-    while end < text.len() && is_word(text[end]) {
-        end += 1;
-    }
-    end
+    at + word_len(&text[at..])
 }

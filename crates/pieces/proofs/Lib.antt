@@ -1,3 +1,4 @@
+pub mod Counted
 pub mod Parentheses
 pub mod Atoms
 pub mod CutLaw

@@ -78,7 +78,7 @@ within_by script at from (Some p) h (inl (lt, g, nb, ns)) (a, lt', c) =
     (omega arith, omega (arith, w.1), omega (arith, w.2, length-drop from script))
 within_by script at from (Some p) h (inr (e, g)) (a, lt, c) = absurd (omega arith)
 
-pub piece-within : (script : List ℕ) (at : ℕ) → at ≤ length script → Within script at (piece script at)
-piece-within script at h =
+pub piece-within : (script : List ℕ) (at : ℕ) (r : Option Piece) → at ≤ length script → r ≡ piece script at → Within script at r
+piece-within script at r h e =
     let from = at + gap false (drop at script) in
-    within_by script at from (piece script at) (omega arith) (gap_skipped script at from h refl) (found_at script from)
+    subst (Within script at) (sym e) (within_by script at from (piece script at) (omega arith) (gap_skipped script at from h refl) (found_at script from))

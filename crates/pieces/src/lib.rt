@@ -1,12 +1,16 @@
 // Cutting a script into pieces: lists with their closing parentheses, stray closing parentheses, and atoms.
 #![tactic(auto)]
 
-ghost use Rattle.std.specs.Prelude.{◌≡◌, ℕ, ◌+◌, ◌<◌, ◌≤◌, Bool, true, false, length, drop};
-ghost use Rattle.pieces.specs.Cuts.{ends_atom, list_length, atom_length, piece_length, piece, Within, Next};
+ghost use Rattle.std.specs.Prelude.{◌≡◌, ℕ, ◌+◌, ◌<◌, ◌≤◌, Bool, true, false, not, List, length, drop};
+ghost use Rattle.std.specs.List.{prefix_len};
+ghost use Rattle.std.specs.Iterator.{YieldsFirstRef, item_count};
+ghost use Rattle.pieces.specs.Cuts.{ends_atom, list_length, atom_length, piece_length, piece, pieces, Within, Next};
 ghost use Rattle.pieces.specs.Laws.{OnlyCut};
 
+use std::marker::Model;
+
 // A piece of a script: from its first byte to the end behind its last.
-#[derive(Clone, Copy)]
+#[derive(Clone, Copy, Debug, PartialEq, Eq)]
 pub struct Piece {
     pub from: usize,
     pub end: usize,
@@ -18,55 +22,46 @@ fn ends_atom(byte: u8) -> bool
     matches!(char::from(byte), '\t' | '\n' | '\r' | ' ' | '(' | ')' | ';')
 }
 
-// The end of the atom whose bytes stand at `from`.
-fn atom_end(script: &[u8], from: usize) -> usize
-    requires { from ≤ length script.now }
-    ensures { result ≡ from + atom_length (drop from script.now) }
+// How many bytes at the front belong to an atom.
+fn atom_len(text: &[u8]) -> usize
+    ensures value { result ≡ prefix_len (λ b. not (ends_atom b)) text.now }
+    ensures within { result ≤ length text.now }
 {
-    let mut end = from;
-    while end < script.len() && !ends_atom(script[end]) {
-        end += 1;
-    }
-    end
+    text.iter().take_while(|&&byte| !ends_atom(byte)).count()
 }
 
-// The end of the list whose opening parenthesis stands right before `from`.
-fn list_end(script: &[u8], from: usize) -> usize
-    requires { from ≤ length script.now }
-    ensures { result ≡ from + list_length 1 false (drop from script.now) }
+// How many bytes there are behind an opening parenthesis, up to and with the one that closes it, or to the end.
+fn list_len(text: &[u8]) -> usize
+    ensures value { result ≡ list_length 1 false text.now }
+    ensures within { result ≤ length text.now }
 {
-    let mut end = from;
-    let mut depth: usize = 1;
+    // The flag stays beside the depth, which a comment leaves as it is: no variant would own it.
     let mut comment = false;
-    while end < script.len() {
-        let byte = script[end];
-        if comment {
-            comment = byte != b'\n' && byte != b'\r';
-        } else if byte == b';' {
-            comment = true;
-        } else if byte == b'(' {
-            depth += 1;
-        } else if byte == b')' {
-            if depth == 1 {
-                return end + 1;
-            }
-            depth -= 1;
+    let mut depth: usize = 1;
+    for (i, &byte) in text.iter().enumerate() {
+        match char::from(byte) {
+            '\n' | '\r' => comment = false,
+            _ if comment => {}
+            ';' => comment = true,
+            '(' => depth += 1,
+            ')' if depth == 1 => return i + 1,
+            ')' => depth -= 1,
+            _ => {}
         }
-        end += 1;
     }
-    end
+    text.len()
 }
 
-// The end of the piece that begins at `from`.
-fn piece_end(script: &[u8], from: usize) -> usize
-    requires { from < length script.now }
-    ensures { result ≡ from + piece_length (drop from script.now) }
+// How long the piece at the front is.
+#[tactic(auto, using(crate::proofs::Counted::atom_counted))]
+fn piece_len(text: &[u8]) -> usize
+    ensures value { result ≡ piece_length text.now }
+    ensures within { result ≤ length text.now }
 {
-    let byte = script[from];
-    match byte {
-        b'(' => list_end(script, from + 1),
-        b')' => from + 1,
-        _ => atom_end(script, from),
+    match text {
+        [b'(', rest @ ..] => 1 + list_len(rest),
+        [b')', ..] => 1,
+        _ => atom_len(text),
     }
 }
 
@@ -84,6 +79,41 @@ pub fn next_piece(script: &[u8], at: usize) -> Option<Piece>
     }
     Some(Piece {
         from,
-        end: piece_end(script, from),
+        end: from + piece_len(&script[from..]),
     })
+}
+
+// The pieces that are left of a script, one after the other.
+#[derive(Drop)]
+pub struct Pieces<'a> {
+    rest: &'a [u8],
+}
+
+impl<'a> Model for Pieces<'a> {
+    ghost Value = { List (List ℕ) };
+
+    ghost view = { λ s. pieces s.rest.now };
+}
+
+// Cuts a script into its pieces.
+pub fn cut(script: &[u8]) -> Pieces<'_>
+    ensures value { result ≡ pieces script.now }
+    ensures law { OnlyCut script.now }
+{
+    Pieces { rest: script }
+}
+
+impl<'a> Iterator for Pieces<'a> {
+    type Item = &'a [u8];
+
+    ghost next_gives = { YieldsFirstRef (λ left. left) };
+
+    ghost remaining = { item_count (λ left. left) };
+
+    fn next(&mut self) -> Option<&'a [u8]> {
+        let script = self.rest;
+        let piece = next_piece(script, 0)?;
+        self.rest = &script[piece.end..];
+        Some(&script[piece.from..piece.end])
+    }
 }

@@ -24,11 +24,8 @@ fn give(
 
 // A script of one command and blanks behind it.
 fn padded(heap: Global, size: usize) -> Result<Vec<u8>, AllocError> {
-    let mut script = Vec::new(heap);
-    script.extend_from_slice(b"(foo)")?;
-    for _ in 5..size {
-        script.push(b' ')?;
-    }
+    let mut script = Vec::from_slice(heap, b"(foo)")?;
+    script.resize(size, b' ')?;
     Ok(script)
 }
 
@@ -56,15 +53,13 @@ fn limits(rt: &HostRuntime) -> anyhow::Result<()> {
 fn main(rt: HostRuntime) -> anyhow::Result<()> {
     let mut input = Vec::new(rt.alloc());
     rt.stdin().read_to_end(&mut input)?;
-    let lines = input.as_slice();
     let mut session = Session::new();
     let mut page = [0u8; 8192];
-    let mut from = 0;
-    for i in 0..lines.len() {
-        if lines[i] == b'\n' {
-            give(&rt, &mut session, &lines[from..i], &mut page)?;
-            from = i + 1;
-        }
+    let mut lines = input.split(|&byte| byte == b'\n');
+    // What stands behind the last line feed is no line.
+    lines.next_back();
+    for line in lines {
+        give(&rt, &mut session, line, &mut page)?;
     }
     limits(&rt)
 }

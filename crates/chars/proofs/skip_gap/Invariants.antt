@@ -1,11 +1,6 @@
-use Rattle.std.proofs.Common.{◌≡◌, ◌+◌, ◌-◌, ◌≤◌, false, length, drop}
+use Rattle.std.proofs.Common.{◌≡◌, ◌+◌, false, drop}
 use Rattle.chars.specs.Runs.{gap}
 use Rattle.chars.proofs.skip_gap.Given as goal
 
-abbrev pub invariant-loop-end : goal.invariant-loop-end
-invariant-loop-end l =
-    (l.end ≤ length l.text)
-    × (l.end + gap l.comment (drop l.end l.text) ≡ l.at + gap false (drop l.at l.text))
-
-abbrev pub decreases-loop-end : goal.decreases-loop-end
-decreases-loop-end l = length l.text - l.end
+abbrev pub invariant-loop-i : goal.invariant-loop-i
+invariant-loop-i l = l.i + gap l.comment (drop (l.at + l.i) l.text) ≡ gap false (drop l.at l.text)

@@ -1,20 +1,22 @@
-use Rattle.std.proofs.Common.{◌≡◌, Some, None, sym, subst, rules}
-use Rattle.pieces.specs.Cuts.{piece, Within}
+use Rattle.std.proofs.Common.{◌≡◌, ◌+◌, Some, None, rules}
+use Rattle.std.proofs.lemmas.List.{take_rest}
+use Rattle.pieces.specs.Cuts.{piece}
 use Rattle.pieces.proofs.CutLaw.{only-cut}
-use Rattle.pieces.proofs.Onward.{piece-within, next-none, next-some}
+use Rattle.pieces.proofs.Onward.{piece-within, next-pieces}
 use Rattle.pieces.proofs.next_piece.Goals as goal
 
 pub returns-then-from-script : goal.returns-then-from-script
 returns-then-from-script c =
     let e : None ≡ piece c.args.script.now c.args.at = search rules in
-    record { result = e; within = tt; next = next-none c.args.script.now c.args.at (sym e); law = only-cut c.args.script.now }
+    record { result = e; within = tt; next = next-pieces c.args.script.now c.args.at None e; law = only-cut c.args.script.now }
 
 pub returns : goal.returns
 returns c =
-    let e : Some (record { from = c.skip_gap-from.result; end = c.piece_end.result }) ≡ piece c.args.script.now c.args.at = search rules in
+    let from = c.skip_gap-from.result in
+    let e : Some (record { from = from; end = from + c.piece_len.result }) ≡ piece c.args.script.now c.args.at = search (rules, take_rest) in
     record {
-      result = search rules;
-      within = subst (Within c.args.script.now c.args.at) (sym e) (piece-within c.args.script.now c.args.at c.requires);
-      next = next-some c.args.script.now c.args.at _ (sym e);
+      result = e;
+      within = piece-within c.args.script.now c.args.at _ c.requires e;
+      next = next-pieces c.args.script.now c.args.at _ e;
       law = only-cut c.args.script.now;
     }

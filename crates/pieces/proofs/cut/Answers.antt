@@ -1,0 +1,5 @@
+use Rattle.pieces.proofs.CutLaw.{only-cut}
+use Rattle.pieces.proofs.cut.Goals as goal
+
+pub returns-clause-law : goal.returns-clause-law
+returns-clause-law c = only-cut c.args.script.now
