@@ -1,6 +1,7 @@
 -- The law of depths.
-use Rattle.std.proofs.Common.{◌≡◌, ℕ, zero, suc, ◌+◌, ◌-◌, ◌<◌, ◌≤◌, Bool, true, false, cond, eqb, ltb, leb, List, [], ◌∷◌, ◌++◌, map, length, get_or, take, set, Result, sym, refl, ap, ◌∙◌, subst, ⊎_elim, arith}
-use Rattle.std.proofs.lemmas.Bool.{cases_lt, cond_both, leb-true, leb-false, le-leb, lt-leb, eqb-true, eqb-false, cond-true, cond-false}
+use Rattle.std.proofs.Common.{◌≡◌, ℕ, zero, suc, ◌+◌, ◌-◌, ◌<◌, ◌≤◌, eqb, ltb, leb, List, [], ◌∷◌, ◌++◌, map, length, get_or, take, set, Result, sym, refl, ap, ◌∙◌, subst, arith}
+use Rattle.std.proofs.lemmas.Bool.{cond_both, leb-true, eqb-true, eqb-false}
+use Rattle.std.proofs.lemmas.Bool.Decides.{nat_tests}
 use Rattle.std.proofs.lemmas.List.{length-take-le, get_or-take, take_all, take-take, take_more_set}
 use Rattle.scopes.specs.declared.NoRoom.{NoRoom}
 use Rattle.scopes.specs.declared.TooMany.{TooMany}
@@ -10,38 +11,34 @@ use Rattle.scopes.specs.Depths.{Deep, depth_at, deep_from, deep, standing, map_d
 -- every level began at or before the index, so the depth is the number of levels
 depth_all : (ls : List ℕ) (i : ℕ) → ((j : ℕ) → j < length ls → get_or ls j 0 ≤ i) → depth_at ls i ≡ length ls
 depth_all [] i h = refl
-depth_all (l ∷ ls) i h =
-    cond-true (leb l i) _ _ (le-leb l i (h 0 (omega arith)))
-    ∙ ap suc (depth_all ls i (λ j k. h (suc j) (omega arith)))
+depth_all (l ∷ ls) i h = grind (arith, nat_tests, h 0, depth_all ls i (λ j k. h (suc j) (omega arith)))
 
 pub depth_most : (ls : List ℕ) (i : ℕ) → depth_at ls i ≤ length ls
 depth_most [] i = omega arith
-depth_most (l ∷ ls) i = cond_both (leb l i) _ _ (λ n. n ≤ suc (length ls)) (λ _. omega (arith, depth_most ls i)) (λ _. omega arith)
+depth_most (l ∷ ls) i = grind (arith, nat_tests, depth_most ls i)
 
 -- a level that began later does not count
 depth_later : (ls : List ℕ) (k i : ℕ) → i < k → depth_at (ls ++ k ∷ []) i ≡ depth_at ls i
-depth_later [] k i h = cond-false (leb k i) _ _ (lt-leb k i h)
-depth_later (l ∷ ls) k i h = ap (λ n. cond (leb l i) (suc n) 0) (depth_later ls k i h)
+depth_later [] k i h = grind (arith, nat_tests)
+depth_later (l ∷ ls) k i h = grind (arith, nat_tests, depth_later ls k i h)
 
 -- before the level with the index d began, at most d levels were open
 depth_low : (ls : List ℕ) (d i : ℕ) → i < get_or ls d 0 → depth_at ls i ≤ d
 depth_low [] d i h = omega arith
-depth_low (l ∷ ls) zero i h = omega (arith, cond-false (leb l i) (suc (depth_at ls i)) 0 (lt-leb l i h))
-depth_low (l ∷ ls) (suc d) i h = cond_both (leb l i) _ _ (λ n. n ≤ suc d) (λ _. omega (arith, depth_low ls d i h)) (λ _. omega arith)
+depth_low (l ∷ ls) zero i h = grind (arith, nat_tests)
+depth_low (l ∷ ls) (suc d) i h = grind (arith, nat_tests, depth_low ls d i h)
 
 -- after the first d levels and the next began, more than d were open
 depth_high : (ls : List ℕ) (d i : ℕ) → d < length ls → ((j : ℕ) → j ≤ d → get_or ls j 0 ≤ i) → d < depth_at ls i
 depth_high [] d i k h = omega arith
-depth_high (l ∷ ls) zero i k h = omega (arith, cond-true (leb l i) (suc (depth_at ls i)) 0 (le-leb l i (h 0 (omega arith))))
-depth_high (l ∷ ls) (suc d) i k h =
-    let more = depth_high ls d i (omega arith) (λ j b. h (suc j) (omega arith)) in
-    omega (arith, cond-true (leb l i) (suc (depth_at ls i)) 0 (le-leb l i (h 0 (omega arith))))
+depth_high (l ∷ ls) zero i k h = grind (arith, nat_tests, h 0)
+depth_high (l ∷ ls) (suc d) i k h = grind (arith, nat_tests, h 0, depth_high ls d i (omega arith) (λ j b. h (suc j) (omega arith)))
 
 -- the first d levels alone give the same depth to a row from before the next level
 depth-take : (ls : List ℕ) (d i : ℕ) → d < length ls → i < get_or ls d 0 → depth_at (take d ls) i ≡ depth_at ls i
 depth-take [] d i k h = omega arith
-depth-take (l ∷ ls) zero i k h = sym (cond-false (leb l i) (suc (depth_at ls i)) 0 (lt-leb l i h))
-depth-take (l ∷ ls) (suc d) i k h = ap (λ n. cond (leb l i) (suc n) 0) (depth-take ls d i (omega arith) h)
+depth-take (l ∷ ls) zero i k h = grind (arith, nat_tests)
+depth-take (l ∷ ls) (suc d) i k h = grind (arith, nat_tests, depth-take ls d i (omega arith) h)
 
 abbrev Rising : List ℕ → Type 0
 Rising ls = (i j : ℕ) → i ≤ j → j < length ls → get_or ls i 0 ≤ get_or ls j 0
@@ -80,10 +77,7 @@ module _ {A : Type 0} where
 
   open_from : (ls : List ℕ) (k i : ℕ) (xs : List A) → i + length xs ≤ k → deep_from (ls ++ k ∷ []) i xs ≡ deep_from ls i xs
   open_from ls k i [] h = refl
-  open_from ls k i (x ∷ xs) h =
-      let a = depth_later ls k i (omega arith) in
-      let b = open_from ls k (suc i) xs (omega arith) in
-      cc
+  open_from ls k i (x ∷ xs) h = grind (arith, depth_later ls k i, open_from ls k (suc i) xs)
 
   -- Opening: each row keeps its depth.
   pub deep_open : (rows : List A) (levels : List ℕ) → deep_from (levels ++ length rows ∷ []) 0 rows ≡ deep_from levels 0 rows
@@ -103,19 +97,7 @@ module _ {A : Type 0} where
   close_from ls d i [] k r = ap (deep_from (take d ls) i) (take_all (get_or ls d 0 - i) [] (omega arith))
   close_from ls d i (x ∷ xs) k r =
       let more = close_from ls d (suc i) xs k r in
-      ⊎_elim
-      (λ h.
-      let same = depth-take ls d i k h in
-      let low = cond-true (leb (depth_at ls i) d) (record { item = x; depth = depth_at ls i } ∷ standing d (deep_from ls (suc i) xs)) (standing d (deep_from ls (suc i) xs)) (le-leb (depth_at ls i) d (depth_low ls d i h)) in
-      let one = left_one ls d i x xs h in
-      cc)
-      (λ h.
-      let high : d < depth_at ls i = depth_high ls d i k (λ j b. omega (arith, r j d b k)) in
-      left-none ls d i (x ∷ xs) h
-      ∙ sym (left-none ls d (suc i) xs (omega arith))
-      ∙ more
-      ∙ sym (cond-false (leb (depth_at ls i) d) _ _ (lt-leb (depth_at ls i) d high)))
-      (cases_lt i (get_or ls d 0))
+      grind (arith, nat_tests, depth-take ls d i k, depth_low ls d i, depth_high ls d i k, left_one ls d i x xs, left-none ls d i (x ∷ xs), left-none ls d (suc i) xs, r)
 
   -- Closing: just the rows stay that are no deeper than the levels that are left.
   pub deep-cut : (rows : List A) (levels : List ℕ) (d : ℕ) → d < length levels → Rising levels →
@@ -126,9 +108,7 @@ module _ {A : Type 0} where
 
   all_from : (ls : List ℕ) (d i : ℕ) (xs : List A) → length ls ≤ d → standing d (deep_from ls i xs) ≡ deep_from ls i xs
   all_from ls d i [] h = refl
-  all_from ls d i (x ∷ xs) h =
-      cond-true (leb (depth_at ls i) d) _ _ (le-leb (depth_at ls i) d (omega (arith, depth_most ls i)))
-      ∙ ap (λ ys. record { item = x; depth = depth_at ls i } ∷ ys) (all_from ls d (suc i) xs h)
+  all_from ls d i (x ∷ xs) h = grind (arith, nat_tests, depth_most ls i, all_from ls d (suc i) xs h)
 
   -- The first rows have the depths that they had.
   pub deep_from-take : (ls : List ℕ) (i k : ℕ) (xs : List A) → deep_from ls i (take k xs) ≡ take k (deep_from ls i xs)
@@ -149,22 +129,14 @@ module _ {A : Type 0} where
   deep-within s k x h = depth-within s.levels 0 k s.rows x h
 
   -- What stands at a depth.
-  append_by : (b : Bool) (x : Deep A) (xs ys zs : List (Deep A)) → zs ≡ xs ++ ys → cond b (x ∷ zs) zs ≡ cond b (x ∷ xs) xs ++ ys
-  append_by true x xs ys zs e = ap (λ us. x ∷ us) e
-  append_by false x xs ys zs e = e
-
   pub standing-append : (d : ℕ) (xs ys : List (Deep A)) → standing d (xs ++ ys) ≡ standing d xs ++ standing d ys
   standing-append d [] ys = refl
-  standing-append d (x ∷ xs) ys = append_by (leb x.depth d) x (standing d xs) (standing d ys) (standing d (xs ++ ys)) (standing-append d xs ys)
-
-  twice_by : (b : Bool) (d e : ℕ) (x : Deep A) (xs ys : List (Deep A)) → leb x.depth e ≡ b → d ≤ e → standing d ys ≡ standing d xs → standing d (cond b (x ∷ ys) ys) ≡ standing d (x ∷ xs)
-  twice_by true d e x xs ys t h q = ap (λ us. cond (leb x.depth d) (x ∷ us) us) q
-  twice_by false d e x xs ys t h q = q ∙ sym (cond-false (leb x.depth d) _ _ (lt-leb x.depth d (omega (arith, leb-false x.depth e t))))
+  standing-append d (x ∷ xs) ys = grind (arith, nat_tests, standing-append d xs ys)
 
   -- Closing twice is closing to the lower depth.
   pub standing-standing : (d e : ℕ) (xs : List (Deep A)) → d ≤ e → standing d (standing e xs) ≡ standing d xs
   standing-standing d e [] h = refl
-  standing-standing d e (x ∷ xs) h = twice_by (leb x.depth e) d e x xs (standing e xs) refl h (standing-standing d e xs h)
+  standing-standing d e (x ∷ xs) h = grind (arith, nat_tests, standing-standing d e xs h)
 
   -- The laws on stacks.
   pub sound-leveled : (rows : List A) (count : ℕ) (levels : List ℕ) (deep : ℕ) → Sound rows count levels deep → Leveled (view rows count levels deep)
@@ -184,11 +156,7 @@ module _ {A : Type 0} where
       (λ _. refl))
 
   pub deep-opened : (room : ℕ) (s t : Scoped A) (r : Result (Unit {0}) NoRoom) → (t, r) ≡ opened room s → deep t ≡ deep s
-  deep-opened room s t r e =
-      ap (λ (p : Scoped A × Result (Unit {0}) NoRoom). deep p.0) e
-      ∙ cond_both (ltb (depth s) room) _ _ (λ (p : Scoped A × Result (Unit {0}) NoRoom). deep p.0 ≡ deep s)
-      (λ _. deep_open s.rows s.levels)
-      (λ _. refl)
+  deep-opened room s t r e = grind (arith, nat_tests, e, deep_open s.rows s.levels)
 
   pub none-closed : (s : Scoped A) (n : ℕ) → n ≡ 0 → deep s ≡ standing (depth s - n) (deep s)
   none-closed s n z = let e : depth s ≡ depth s - n = omega arith in sym (deep_all s.rows s.levels) ∙ ap (λ d. standing d (deep s)) e
@@ -234,15 +202,9 @@ module _ {A : Type 0} (rows : List A) (count : ℕ) (levels : List ℕ) (open' :
       cc
 
 module _ {A B : Type 0} (f : A → B) where
-  map_by : (b : Bool) (x : Deep A) (xs : List (Deep A)) → cond b (record { item = f x.item; depth = x.depth } ∷ map_deep f xs) (map_deep f xs) ≡ map_deep f (cond b (x ∷ xs) xs)
-  map_by true x xs = refl
-  map_by false x xs = refl
-
   pub standing-map : (d : ℕ) (xs : List (Deep A)) → standing d (map_deep f xs) ≡ map_deep f (standing d xs)
   standing-map d [] = refl
-  standing-map d (x ∷ xs) =
-      ap (λ ys. cond (leb x.depth d) (record { item = f x.item; depth = x.depth } ∷ ys) ys) (standing-map d xs)
-      ∙ map_by (leb x.depth d) x (standing d xs)
+  standing-map d (x ∷ xs) = grind (arith, nat_tests, standing-map d xs)
 
   pub map_deep-append : (xs ys : List (Deep A)) → map_deep f (xs ++ ys) ≡ map_deep f xs ++ map_deep f ys
   map_deep-append [] ys = refl

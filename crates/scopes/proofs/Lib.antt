@@ -1,3 +1,3 @@
-pub mod Steps
+pub mod Closing
 pub mod Restoring
 pub mod Depths

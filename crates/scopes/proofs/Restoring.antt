@@ -7,6 +7,9 @@ use Rattle.scopes.specs.declared.TooMany.{TooMany}
 use Rattle.scopes.specs.Stacks.{Scoped, depth, opened, closed, cut}
 use Rattle.scopes.specs.Histories.{Act, adds, opens, closes, acted, run, Above, Restores}
 
+pub closed_some : {A : Type 0} (s : Scoped A) (n : ℕ) → 0 < n → n ≤ depth s → closed s n ≡ (cut s (depth s - n), Ok tt)
+closed_some s n p h = cond-true (leb n (depth s)) _ _ (le-leb n (depth s) h) ∙ cond-false (eqb n 0) _ _ (ne_eqb n 0 (λ q. omega arith))
+
 -- In t stands all that stood in s, the level that was opened next, and only newer levels above it.
 record Kept {A : Type 0} (s t : Scoped A) : Type 0 where
   rows : take (length s.rows) t.rows ≡ s.rows
@@ -93,8 +96,7 @@ module _ {A : Type 0} (room deep : ℕ) (s : Scoped A) where
   gives : (t : Scoped A) (n : ℕ) → Kept s t → depth s < depth t → n ≡ depth t - depth s → closed t n ≡ (s, Ok tt)
   gives t n k h is =
       let d : depth t - n ≡ depth s = omega arith in
-      cond-true (leb n (depth t)) _ _ (le-leb n (depth t) (omega arith))
-      ∙ cond-false (eqb n 0) _ _ (ne_eqb n 0 (λ q. omega arith))
+      closed_some t n (omega arith) (omega arith)
       ∙ ap (λ m. (cut t m, Ok tt)) d
       ∙ ap (λ u. (u, Ok tt)) (back t k h)
 

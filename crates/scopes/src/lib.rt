@@ -2,14 +2,13 @@
 #![tactic(auto)]
 
 ghost use Rattle.std.specs.Prelude.{◌≡◌};
-ghost use Rattle.scopes.specs.Stacks.{added, opened, closed};
-ghost use Rattle.scopes.specs.Lent.{held, Good, room, deepest, Same, AddCounts, OpenCounts, CloseCounts};
+ghost use Rattle.scopes.specs.Stacks.{Sound, added, opened, closed};
 ghost use Rattle.scopes.specs.Histories.{Restores};
 ghost use Rattle.scopes.specs.Depths.{deep, AddDepths, CloseDepths};
 
 pub mod table;
 
-// The scoped stack over a table of its holder.
+// The scoped stack over a table of its holder. No method of the table: no clause says what becomes of a table that lends four fields.
 #[macro_export]
 macro_rules! stack {
     ($t:expr) => {
@@ -18,11 +17,11 @@ macro_rules! stack {
 }
 
 // Every row, or every level, is in use.
-#[derive(Clone, Copy)]
+#[derive(Clone, Copy, Debug, PartialEq, Eq)]
 pub struct NoRoom;
 
 // More levels were to be closed than are open.
-#[derive(Clone, Copy)]
+#[derive(Clone, Copy, Debug, PartialEq, Eq)]
 pub struct TooMany;
 
 // The first `count` rows stand. The first `depth` levels are open: each says how many rows stood when it was opened.
@@ -33,16 +32,18 @@ pub struct ScopedStack<'a, 'b, 'c, 'd, T: Copy> {
     pub count: &'b mut usize,
     pub levels: &'c mut [usize],
     pub depth: &'d mut usize,
+    pub ghost sound: { Sound rows.now count.now levels.now depth.now },
 }
 
 impl<'a, 'b, 'c, 'd, T: Copy> ScopedStack<'a, 'b, 'c, 'd, T> {
+    ghost use Rattle.scopes.specs.Lent.{held, room, deepest, Same, AddCounts, OpenCounts, CloseCounts};
+
     // Adds a row to the newest level.
+    #[tactic(auto, using(crate::proofs::Depths::add_deep, std::proofs::lemmas::List::take_more_set))]
     pub fn add(&mut self, row: T) -> Result<(), NoRoom>
-        requires { Good self.old }
         ensures view { (held self.new, result) ≡ added (room self.old) (held self.old) row }
         ensures depths { AddDepths (held self.old) row (held self.new) result }
         ensures counts { AddCounts self.old self.new result }
-        ensures sound { Good self.new }
         ensures same { Same self.old self.new }
     {
         if *self.count >= self.rows.len() {
@@ -54,12 +55,11 @@ impl<'a, 'b, 'c, 'd, T: Copy> ScopedStack<'a, 'b, 'c, 'd, T> {
     }
 
     // Opens a level.
+    #[tactic(auto, using(crate::proofs::Depths::open_deep, std::proofs::lemmas::List::take_more_set))]
     pub fn open(&mut self) -> Result<(), NoRoom>
-        requires { Good self.old }
         ensures view { (held self.new, result) ≡ opened (deepest self.old) (held self.old) }
         ensures depths { deep (held self.new) ≡ deep (held self.old) }
         ensures counts { OpenCounts self.old self.new result }
-        ensures sound { Good self.new }
         ensures same { Same self.old self.new }
     {
         if *self.depth >= self.levels.len() {
@@ -71,13 +71,12 @@ impl<'a, 'b, 'c, 'd, T: Copy> ScopedStack<'a, 'b, 'c, 'd, T> {
     }
 
     // Closes the newest `n` levels and drops their rows.
+    #[tactic(auto, using(crate::proofs::Closing::close_view, crate::proofs::Depths::close_deep, crate::proofs::Restoring::restores))]
     pub fn close(&mut self, n: usize) -> Result<(), TooMany>
-        requires { Good self.old }
         ensures view { (held self.new, result) ≡ closed (held self.old) n }
         ensures depths { CloseDepths (held self.old) n (held self.new) result }
         ensures counts { CloseCounts self.old n self.new result }
         ensures law { Restores (held self.old) n (held self.new) result }
-        ensures sound { Good self.new }
         ensures same { Same self.old self.new }
     {
         if n > *self.depth {

@@ -1,8 +1,36 @@
 // A table of fixed size with room for 63 levels, lent to the scoped stack by its holder.
+ghost use Rattle.std.specs.Prelude.{◌≡◌, ◌≤◌, [], length};
+ghost use Rattle.scopes.specs.Stacks.{Sound};
+
 #[derive(Drop)]
 pub struct Table<T: Copy, const N: usize> {
     pub rows: [T; N],
     pub count: usize,
     pub levels: [usize; 63],
     pub depth: usize,
+    pub ghost sound: { Sound rows count levels depth },
+}
+
+impl<T: Copy, const N: usize> Table<T, N> {
+    ghost use Rattle.scopes.specs.Tables.{shown};
+
+    // A table in which nothing stands.
+    pub fn new(blank: T) -> Self
+        ensures { shown result ≡ record { rows = []; levels = [] } }
+    {
+        Table {
+            rows: [blank; N],
+            count: 0,
+            levels: [0; 63],
+            depth: 0,
+        }
+    }
+
+    // The rows that stand.
+    pub fn as_slice(&self) -> &[T]
+        ensures rows { result.now ≡ (shown self.now).rows }
+        ensures few { length result.now ≤ N }
+    {
+        &self.rows[..self.count]
+    }
 }

@@ -4,6 +4,7 @@ use Rattle.grammar.specs.Marks.{Mark, mark, close_list}
 use Rattle.forms.specs.Syntax as syntax
 use Rattle.forms.specs.Syntax.{spell_sort, spell_sorts}
 use Rattle.theory.specs.declared.Sort.TheVariants as sorts
+use Rattle.tables.specs.Shorts.{items_in}
 use Rattle.terms.specs.declared.SortFault.{SortFault}
 use Rattle.terms.specs.Records.{Function}
 use Rattle.terms.specs.Scoping.{Scope}
@@ -12,7 +13,7 @@ use Rattle.signatures.specs.declared.reader.Signature.{Signature}
 use Rattle.signatures.specs.Steps.{Listed, listed}
 
 abbrev pub listed_in : Signature → Listed
-listed_in s = listed (take s.count s.sorts) s.bits s.arity
+listed_in s = listed (items_in s.sorts) s.bits s.arity
 
 -- The state after a step that was taken, or the fault.
 abbrev pub placed : {A : Type 0} → Result (Unit {0}) SortFault → A → Result A SortFault

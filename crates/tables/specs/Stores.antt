@@ -9,14 +9,15 @@ use Rattle.tables.specs.declared.rows.Node.{Node}
 use Rattle.tables.specs.declared.rows.Node.TheVariants.{Literal, Apply}
 use Rattle.tables.specs.declared.rows.TermRow.{TermRow}
 use Rattle.tables.specs.declared.rows.Counts.{Counts}
+use Rattle.tables.specs.Shorts.{items_in}
 use Rattle.terms.specs.Terms.{Term, literal, apply, gathered, total}
 use Rattle.terms.specs.Records.{Function, Record}
 
 abbrev pub name_in : Name → List ℕ
-name_in n = take n.count n.bytes
+name_in n = items_in n.bytes
 
 abbrev pub function_in : FunctionRow → Function
-function_in f = record { name = name_in f.name; arguments = take f.arity f.arguments; result = f.result }
+function_in f = record { name = name_in f.name; arguments = items_in f.arguments; result = f.result }
 
 -- ## Terms as trees
 

@@ -1,40 +1,39 @@
 // What stands in a session: declared sorts and functions, terms and assertions, in tables of fixed size.
 #![tactic(auto)]
 
-ghost use Rattle.std.specs.Prelude.{◌≡◌};
-ghost use Rattle.tables.specs.Views.{stored_in, Tidy, record_of};
+ghost use Rattle.std.specs.Prelude.{◌≡◌, ◌≤◌, length};
+ghost use Rattle.tables.specs.Views.{stored_in, Tidy};
 
 use crate::rows::{FunctionRow, Name};
 use crate::store::Tables;
 use theory::Logic;
 
-mod reads;
+pub mod named;
 pub mod rows;
+pub mod short;
 pub mod store;
 
 impl Tables {
     pub fn logic(&self) -> Option<Logic>
-        ensures { result ≡ (stored_in self.now).logic }
+        ensures value { result ≡ (stored_in self.now).logic }
+        ensures tidy { Tidy self.now }
     {
-        let logic = self.logic;
-        logic
+        self.logic
     }
 
-    // The names of the declared sorts.
+    // The names of the declared sorts, at most 32.
     pub fn sorts(&self) -> &[Name]
-        requires { Tidy self.now }
-        ensures { result.now ≡ (stored_in self.now).sorts.rows }
+        ensures rows { result.now ≡ (stored_in self.now).sorts.rows }
+        ensures few { length result.now ≤ 32 }
     {
-        let count = self.sorts.count;
-        &self.sorts.rows[0..count]
+        self.sorts.as_slice()
     }
 
-    // The declared functions.
+    // The declared functions, at most 256.
     pub fn functions(&self) -> &[FunctionRow]
-        requires { Tidy self.now }
-        ensures { result.now ≡ (stored_in self.now).functions.rows }
+        ensures rows { result.now ≡ (stored_in self.now).functions.rows }
+        ensures few { length result.now ≤ 256 }
     {
-        let count = self.functions.count;
-        &self.functions.rows[0..count]
+        self.functions.as_slice()
     }
 }

@@ -2,31 +2,46 @@
 ghost use Rattle.std.specs.Prelude.{◌≡◌};
 ghost use Rattle.tables.specs.Stores.{name_in};
 
+use crate::named::Named;
+use crate::short::Short;
 use theory::{Head, Sort};
 
 // A name of at most 64 bytes.
 #[derive(Clone, Copy)]
 pub struct Name {
-    pub(crate) bytes: [u8; 64],
-    pub(crate) count: usize,
+    pub(crate) bytes: Short<u8, 64>,
 }
 
 impl Name {
     pub fn bytes(&self) -> &[u8]
         ensures { result.now ≡ name_in self.now }
     {
-        let count = self.count.min(64);
-        &self.bytes[0..count]
+        self.bytes.as_slice()
     }
 }
 
-// A declared function: its name, the sorts of its arguments, of which there are at most four, and the sort of its result.
+impl Named for Name {
+    ghost name = { name_in };
+
+    fn name(&self) -> &[u8] {
+        self.bytes()
+    }
+}
+
+// A declared function: its name, the sorts of its arguments, and the sort of its result.
 #[derive(Clone, Copy)]
 pub struct FunctionRow {
     pub name: Name,
-    pub arguments: [Sort; 4],
-    pub arity: usize,
+    pub arguments: Short<Sort, 4>,
     pub result: Sort,
+}
+
+impl Named for FunctionRow {
+    ghost name = { λ row. name_in row.name };
+
+    fn name(&self) -> &[u8] {
+        self.name.bytes()
+    }
 }
 
 // A bit-vector by its width and number, or an application.
@@ -45,7 +60,7 @@ pub struct TermRow {
 }
 
 // How many rows each table has.
-#[derive(Clone, Copy)]
+#[derive(Clone, Copy, Debug, PartialEq, Eq)]
 pub struct Counts {
     pub(crate) sorts: usize,
     pub(crate) functions: usize,

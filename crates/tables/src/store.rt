@@ -4,7 +4,7 @@ use scopes::table::Table;
 use theory::Logic;
 
 // Terms lie so that each stands behind its parts. At most 1,024 of them stand; there is room for those of one command more, which has at most 4,096 tokens, so that reading a command never depends on room.
-// Parts and assertions are told by the numbers of their terms.
+// Parts and assertions are told by the numbers of their terms: there is no heap to hold trees.
 #[derive(Drop)]
 pub struct Tables {
     pub(crate) logic: Option<Logic>,

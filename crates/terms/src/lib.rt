@@ -2,7 +2,7 @@
 #![tactic(auto)]
 
 // Why a term or a sort isn't taken, with the place.
-#[derive(Clone, Copy)]
+#[derive(Clone, Copy, Debug, PartialEq, Eq)]
 pub enum SortFault {
     // a name or literal that doesn't stand
     Unknown(usize),

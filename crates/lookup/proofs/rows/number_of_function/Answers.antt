@@ -1,6 +1,0 @@
-use Rattle.terms.specs.Scoping.{number_in}
-use Rattle.lookup.proofs.rows.number_of_function.Goals as goal
-
-pub returns : goal.returns
-unfolding number_in
-returns c = c.first_function.ensures
