@@ -8,7 +8,7 @@ use Rattle.forms.specs.declared.FormFault.{FormFault}
 use Rattle.forms.specs.Forms.{formed}
 use Rattle.forms.specs.declared.FormFault.TheVariants.{Unclosed, Nested, Outside}
 use Rattle.forms.specs.declared.Command.{Command}
-use Rattle.rules.specs.declared.Logic.{Logic}
+use Rattle.theory.specs.declared.Logic.{Logic}
 use Rattle.rules.specs.declared.Mode.{Mode}
 use Rattle.rules.specs.declared.Fault.{Fault}
 use Rattle.rules.specs.declared.Fault.TheVariants as faults

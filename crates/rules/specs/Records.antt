@@ -5,8 +5,8 @@ use Rattle.tokens.specs.Lexing.{tokens, bytes_of}
 use Rattle.forms.specs.declared.Command.{Command}
 use Rattle.forms.specs.declared.Command.TheVariants.{SetLogic, DeclareSort, DeclareFun, DeclareConst, Assert, Push, Pop, CheckSat, CheckSatAssuming, GetValue, GetInfo, Reset, Exit, Other}
 use Rattle.forms.specs.Forms.{formed}
-use Rattle.rules.specs.declared.Logic.{Logic}
-use Rattle.rules.specs.declared.Logic.TheVariants.{QfUf, QfBv}
+use Rattle.theory.specs.declared.Logic.{Logic}
+use Rattle.theory.specs.declared.Logic.TheVariants.{QfUf, QfBv}
 use Rattle.rules.specs.declared.Fault.{Fault}
 use Rattle.rules.specs.declared.Fault.TheVariants.{Token, Form}
 

@@ -2,7 +2,7 @@
 use Rattle.std.specs.Prelude.{◌≡◌, ℕ, ◌+◌, ◌≤◌, Bool, true, false, cond, List, [], ◌∷◌, ◌++◌, length, take, drop, Some, None, Ok, Err, codes, Option, Result, nat_lt}
 use Rattle.page.specs.Pages.{complaint}
 use Rattle.forms.specs.declared.Command.{Command}
-use Rattle.rules.specs.declared.Logic.{Logic}
+use Rattle.theory.specs.declared.Logic.{Logic}
 use Rattle.rules.specs.declared.Mode.{Mode}
 use Rattle.rules.specs.declared.Mode.TheVariants.{Start, Assert, Sat, Unsat}
 use Rattle.rules.specs.declared.Fault.{Fault}

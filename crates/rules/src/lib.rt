@@ -1,4 +1,4 @@
-// The words of a session: logics, modes, faults and replies.
+// The words of a session: modes, faults and replies.
 #![tactic(auto)]
 
 ghost use Rattle.std.specs.Prelude.{◌≡◌};
@@ -8,12 +8,6 @@ ghost use Rattle.rules.specs.Refusals.{number_of, place_of, number_in, place_in}
 
 use forms::FormFault;
 use tokens::TokenFault;
-
-#[derive(Clone, Copy, Debug, PartialEq, Eq)]
-pub enum Logic {
-    QfUf,
-    QfBv,
-}
 
 // Where the session stands between its commands.
 #[derive(Clone, Copy, Debug, PartialEq, Eq)]

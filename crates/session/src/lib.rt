@@ -16,10 +16,11 @@ use crate::store::Session;
 use forms::Command;
 use grammar::items::Item;
 use page::{error, put};
-use rules::{Fault, Logic, Mode, Reply, Said};
+use rules::{Fault, Mode, Reply, Said};
+use theory::Logic;
 use tokens::text::Text;
 use tokens::{Kind, Token, bytes_of, lex};
-use words::same;
+use words::spelled::first;
 
 pub mod store;
 
@@ -27,13 +28,7 @@ pub mod store;
 fn logic_of(name: &[u8]) -> Option<Logic>
     ensures { result ≡ logic_of name.now }
 {
-    if same(name, b"QF_UF") {
-        Some(Logic::QfUf)
-    } else if same(name, b"QF_BV") {
-        Some(Logic::QfBv)
-    } else {
-        None
-    }
+    first(&[Logic::QfUf, Logic::QfBv], name)
 }
 
 // The keyword asks for the reason of the last `unknown`.

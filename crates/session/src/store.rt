@@ -1,6 +1,7 @@
 // The memory of a session.
 use grammar::items::Item;
-use rules::{Logic, Mode};
+use rules::Mode;
+use theory::Logic;
 use tokens::Token;
 
 // What stands, and room to read a command in.
