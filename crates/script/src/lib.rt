@@ -7,7 +7,7 @@ ghost use Rattle.session.specs.Views.{view};
 ghost use Rattle.script.specs.Transcripts.{on, transcript};
 
 use page::error;
-use pieces::next_piece;
+use pieces::cut;
 use rules::Fault;
 use session::store::Session;
 use std::alloc::{AllocError, Global};
@@ -39,18 +39,11 @@ pub fn answer_script(heap: Global, script: &[u8]) -> Result<Vec<u8>, AllocError>
         return Ok(out);
     }
     let mut session = Session::new();
-    let mut at = 0;
-    while let Some(piece) = next_piece(script, at) {
-        answer_piece(
-            &mut session,
-            &script[piece.from..piece.end],
-            &mut page,
-            &mut out,
-        )?;
+    for piece in cut(script) {
+        answer_piece(&mut session, piece, &mut page, &mut out)?;
         if session.has_ended() {
             return Ok(out);
         }
-        at = piece.end;
     }
     Ok(out)
 }

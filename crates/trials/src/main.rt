@@ -14,8 +14,8 @@ fn give(
     page: &mut [u8],
 ) -> anyhow::Result<()> {
     let reply = session.command(text, page);
-    let number = reply.number;
-    let place = reply.place;
+    let number = reply.number();
+    let place = reply.place();
     let count = reply.count;
     println!(rt; "{number} {place} {count}")?;
     rt.stdout().write_all(&page[0..count])?;

@@ -4,7 +4,7 @@
 pub mod spelled;
 
 ghost use Rattle.std.specs.Prelude.{◌≡◌};
-ghost use Rattle.words.specs.Words.{same, spelling, word_of, Told};
+ghost use Rattle.words.specs.Words.{spelling, word_of, Told};
 
 use spelled::{Spelled, first};
 
@@ -37,14 +37,6 @@ pub enum Word {
     Hexadecimal,
     Numerals,
     Strings,
-}
-
-// Two texts have the same bytes.
-#[tactic(auto, using(crate::proofs::Found::same_is))]
-pub fn same(left: &[u8], right: &[u8]) -> bool
-    ensures { result ≡ same left.now right.now }
-{
-    left == right
 }
 
 impl Spelled for Word {
