@@ -1,9 +1,8 @@
-use Rattle.std.proofs.Common.{drop, sym, ap, ◌∙◌, arith, length-set, rules}
+use Rattle.std.proofs.Common.{drop, sym, ap, ◌∙◌, length-set, rules}
 use Rattle.grammar.specs.declared.items.Item.TheVariants.{OpenList, Command}
 use Rattle.grammar.specs.Marks.{marks}
 use Rattle.grammar.specs.Machine.{run}
-use Rattle.forms.specs.Forms.{no_token}
-use Rattle.forms.proofs.Stacks.{two_last, wrong-run, more-run, end_run, nothing_left, something_left}
+use Rattle.forms.proofs.Stacks.{two_last, end_run, something_left}
 use Rattle.forms.proofs.fits.Goals as goal
 
 pub loop-token-init : goal.loop-token-init
