@@ -95,6 +95,7 @@ fn deepest(tokens: Tokens<'_>) -> Option<usize>
     None
 }
 
+// The table and its top stay two parameters, since the table is lent and fixed: no heap below the script.
 // One token against the stack of expected items, which stands from `top` to the table's end, the next item first. Answers the new top, or none where the token doesn't fit.
 fn advance(items: &mut [Item; 16388], top: usize, sign: Sign) -> Option<usize>
     requires low { 5 ≤ top }
@@ -132,7 +133,7 @@ fn fits(tokens: Tokens<'_>, items: &mut [Item; 16388]) -> Result<(), Misfit>
     }
 }
 
-// The numeral's value; 0 for another token.
+// The numeral's value; 0 for another token. A number and no Option, which would add a branch that no fitting command takes.
 fn number_of(kind: Kind) -> u16
     ensures { result ≡ number_of kind }
 {

@@ -10,7 +10,9 @@ pub struct Session {
     pub(crate) logic: Option<Logic>,
     pub(crate) depth: u8,
     pub(crate) mode: Mode,
+    // a flag beside the mode, since an `exit` leaves the mode that it finds
     pub(crate) ended: bool,
+    // arrays, since nothing below the script takes memory from a heap
     pub(crate) tokens: [Token; 4096],
     pub(crate) items: [Item; 16388],
 }

@@ -1,5 +1,5 @@
 -- Facts on the numbers that digits write.
-use Rattle.std.proofs.Common.{◌≡◌, ℕ, ◌+◌, ◌-◌, ◌*◌, ◌/◌, ◌%◌, ◌≤◌, List, [], ◌∷◌, Some, None, Option, sym, refl, ap, ◌∙◌, mul-add, mul_left_comm, arith}
+use Rattle.std.proofs.Common.{◌≡◌, ℕ, ◌+◌, ◌-◌, ◌*◌, ◌/◌, ◌%◌, ◌≤◌, List, [], ◌∷◌, Some, None, Option, sym, refl, ap, ◌∙◌, mul-add, mul_comm, mul_left_comm, arith}
 use Rattle.std.specs.Option.{option_map}
 use Rattle.tokens.specs.Numbers.{decimal_from, number_from, digit_in, digit_of, then, low16}
 
@@ -25,5 +25,7 @@ low-front base n m (b ∷ bs) e = go (digit_in base (digit_of b)) (λ d. low-fro
     go (Some d) h = h d
 
 -- what is kept of a value is enough to go on with
-pub low_step : (base n d : ℕ) (ds : List ℕ) → option_map low16 (number_from base (low16 (base * n + d)) ds) ≡ option_map low16 (number_from base (base * n + d) ds)
-low_step base n d ds = low-front base (low16 (base * n + d)) (base * n + d) ds (omega arith)
+pub low_step : (base n d : ℕ) (ds : List ℕ) → option_map low16 (number_from base ((n * base % 65536 + d) % 65536) ds) ≡ option_map low16 (number_from base (base * n + d) ds)
+low_step base n d ds =
+    let same : n * base ≡ base * n = mul_comm n base in
+    low-front base ((n * base % 65536 + d) % 65536) (base * n + d) ds (omega (arith, same))

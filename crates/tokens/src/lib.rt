@@ -71,18 +71,18 @@ impl Place<'_> {
         ensures value { result ≡ lexeme_at Symbol self.entry }
         ensures within { EndsInside self.entry result }
     {
-        let end = skip_run(self.text.bytes, self.from);
-        named(Kind::Name, self.from, end)
+        let Place { text, from } = self;
+        let end = skip_run(text.bytes, from);
+        named(Kind::Name, from, end)
     }
 
     fn numeral(self) -> Result<Token, TokenFault>
         ensures value { result ≡ lexeme_at Digit self.entry }
         ensures within { EndsInside self.entry result }
     {
-        let text = self.text.bytes;
-        let from = self.from;
-        let end = skip_run(text, from);
-        let value = numeral(&text[from..end]).ok_or(TokenFault::Malformed(from))?;
+        let Place { text, from } = self;
+        let end = skip_run(text.bytes, from);
+        let value = numeral(&text.bytes[from..end]).ok_or(TokenFault::Malformed(from))?;
         Ok(Token {
             kind: Kind::Numeral(value),
             from,
@@ -94,10 +94,9 @@ impl Place<'_> {
         ensures value { result ≡ lexeme_at Hash self.entry }
         ensures within { EndsBehind self.entry result }
     {
-        let text = self.text.bytes;
-        let from = self.from;
-        let end = skip_run(text, from + 1);
-        let (width, value) = literal(&text[from..end]).ok_or(TokenFault::Malformed(from))?;
+        let Place { text, from } = self;
+        let end = skip_run(text.bytes, from + 1);
+        let (width, value) = literal(&text.bytes[from..end]).ok_or(TokenFault::Malformed(from))?;
         Ok(Token {
             kind: Kind::Literal(width, value),
             from,
@@ -109,12 +108,11 @@ impl Place<'_> {
         ensures value { result ≡ lexeme_at Colon self.entry }
         ensures within { EndsBehind self.entry result }
     {
-        let text = self.text.bytes;
-        let from = self.from;
-        if text.len() - from < 2 || !starts_symbol(text[from + 1]) {
+        let Place { text, from } = self;
+        if text.bytes.len() - from < 2 || !starts_symbol(text.bytes[from + 1]) {
             return Err(TokenFault::Unexpected(from));
         }
-        let end = skip_run(text, from + 1);
+        let end = skip_run(text.bytes, from + 1);
         named(Kind::Keyword, from, end)
     }
 
@@ -158,7 +156,7 @@ fn next_token(text: Text<'_>, at: usize) -> Result<Option<Token>, TokenFault>
     Ok(Some(Place { text, from }.token()?))
 }
 
-// The tokens of the text; they are kept in the table.
+// The tokens of the text; they are kept in the table, whose filled rows are counted, since it is fixed memory.
 pub fn lex<'a>(text: Text<'a>, table: &'a mut [Token; 4096]) -> Result<Tokens<'a>, TokenFault>
     ensures rows { rows_in result ≡ tokens text.entry.bytes.now }
     ensures text { IfOk result (λ ts. ts.text.now ≡ text.entry.bytes.now) }

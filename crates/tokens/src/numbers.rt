@@ -40,17 +40,8 @@ pub(crate) fn numeral(run: &[u8]) -> Option<u16>
     Some(value)
 }
 
-// One digit more behind a value; the lowest 16 bits.
-fn shifted(base: u16, value: u16, digit: u16) -> u16
-    requires base { base ≤ 16 }
-    requires digit { digit < 16 }
-    ensures { result ≡ low16 (base * value + digit) }
-{
-    ((base as u32 * value as u32 + digit as u32) % 65536) as u16
-}
-
+// The lowest 16 bits of the value of one or more digits.
 fn value_of(base: u16, run: &[u8]) -> Option<u16>
-    requires { base ≤ 16 }
     ensures { result ≡ value_of base run.now }
 {
     if run.is_empty() {
@@ -58,14 +49,13 @@ fn value_of(base: u16, run: &[u8]) -> Option<u16>
     }
     let mut value: u16 = 0;
     for byte in run {
-        value = shifted(base, value, digit_in(base, *byte)?);
+        value = value.wrapping_mul(base).wrapping_add(digit_in(base, *byte)?);
     }
     Some(value)
 }
 
 // The width and value of digits of so many bits each.
 fn digits(base: u16, bits: usize, run: &[u8]) -> Option<(usize, u16)>
-    requires base { base ≤ 16 }
     requires bits { bits ≤ 4 }
     requires few { length run.now ≤ 4096 }
     ensures { result ≡ option_map (λ v. (bits * length run.now, v)) (value_of base run.now) }

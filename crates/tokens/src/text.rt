@@ -32,7 +32,7 @@ pub struct Tokens<'a> {
     ghost few: { length rows.now ≤ 4096 },
 }
 
-// A place inside a text.
+// A place inside a text, at which a token may begin.
 #[derive(Clone, Copy, Debug)]
 pub(crate) struct Place<'a> {
     pub(crate) text: Text<'a>,
