@@ -1,7 +1,7 @@
 -- The machine's bitwise operators compute the bit by bit definition, and each bit of it is read off.
 use Rattle.std.proofs.Common.{◌≡◌, ℕ, zero, suc, ◌+◌, ◌-◌, ◌*◌, ◌/◌, ◌%◌, ◌^◌, ◌<◌, min, max, sym, refl, ap, ◌∙◌, subst, mod-eq_of_lt, add-one, one-add, arith}
 use native.Mathlib.Nat.{mod-one}
-use lib.Bits.{bit_and, bit_or, bit_xor, and_block, or_block, xor_block, and_shr, or_shr, xor_shr, and_mod, or_mod, xor_mod}
+use lib.Bits.{and_lt, or_lt, xor_lt, bit_and, bit_or, bit_xor, and_block, or_block, xor_block, and_shr, or_shr, xor_shr, and_mod, or_mod, xor_mod}
 use lib.Pow.{field, mod-mod-pow, mod-pow-add}
 use Rattle.bitvec.specs.Arithmetic.{bit, bitwise, bvand, bvor, bvxor}
 use Rattle.bitvec.proofs.Masks.{rem_lt}
@@ -81,3 +81,5 @@ or_each = each or_apart
 
 pub xor_each : (w a b i : ℕ) → i < w → bit i (bvxor w (a % 2 ^ w) (b % 2 ^ w)) ≡ (bit i a + bit i b) % 2
 xor_each = each xor_apart
+
+pub ruleset bits = (and_bits, or_bits, xor-bits, and_lt, or_lt, xor_lt)

@@ -1,5 +1,5 @@
 -- The laws, at the width k that counts, and together for every width up to 16.
-use Rattle.std.proofs.Common.{◌≡◌, ℕ, zero, suc, ◌+◌, ◌-◌, ◌*◌, ◌/◌, ◌%◌, ◌^◌, ◌<◌, ◌≤◌, min, false, eqb, leb, ◌⊎◌, ℤ, sym, ap, ◌∙◌, lt_trans, mod-lt, mod-eq_of_lt, pow-suc, arith, pow_pos}
+use Rattle.std.proofs.Common.{◌≡◌, ℕ, zero, suc, ◌+◌, ◌-◌, ◌*◌, ◌/◌, ◌%◌, ◌^◌, ◌<◌, ◌≤◌, min, false, eqb, leb, ◌⊎◌, ℤ, sym, refl, ap, ◌∙◌, lt_trans, mod-lt, mod-eq_of_lt, pow-suc, arith, pow_pos}
 use native.Mathlib.Nat.{add-mod, add-mod-mod, min-eq_left, mod-mod}
 use lib.Signed.{lt_z, le_z}
 use lib.Pow.{pow-lt, high, low}
@@ -8,7 +8,8 @@ use Rattle.std.proofs.lemmas.Bool.{lt-leb, ne_eqb}
 use Rattle.std.proofs.lemmas.Int.{ints}
 use Rattle.std.proofs.lemmas.Bool.Decides.{nat_tests}
 use Rattle.bitvec.specs.declared.Sort.{Sort}
-use Rattle.bitvec.specs.Arithmetic.{signed, bvnot, bvneg, bvadd, bvsub, bvmul, bvudiv, bvurem, bvshl, bvlshr, bvslt}
+use Rattle.bitvec.specs.Arithmetic.{bitwise, signed, bvnot, bvneg, bvadd, bvsub, bvmul, bvudiv, bvurem, bvshl, bvlshr, bvslt}
+use Rattle.bitvec.specs.Examples.{Worked}
 use Rattle.bitvec.specs.Laws.{Laws, Lawful}
 use Rattle.bitvec.specs.Table.{joined, beside, truth}
 use Rattle.bitvec.proofs.Bitwise.{and_each, or_each, xor_each}
@@ -91,3 +92,7 @@ laws_at w e h = record {
 pub lawful : Lawful
 unfolding Lawful
 lawful w h = laws_at w (min-eq_left h) h
+
+pub worked : Worked
+unfolding Worked bitwise
+worked = refl

@@ -61,3 +61,7 @@ joined_lt w v a b p q =
 
 pub joined_16 : (w v a b : ℕ) → w + v ≤ 16 → a < 2 ^ w → b < 2 ^ v → bit_or (a * 2 ^ v % 4294967296) b < 65536
 joined_16 w v a b h p q = rw (above-below w v a b h p q) (lt_of_lt_of_le (joined_lt w v a b p q) (size_le (w + v) h))
+
+pub ruleset joining = (rem_lt, above-below, joined_lt, joined_16)
+
+pub ruleset wraps = (rem_lt, wrapped, wrapped_not, wrapped_sub, ones)

@@ -1,4 +1,5 @@
 pub mod Arithmetic
 pub mod Examples
 pub mod Laws
+pub mod Names
 pub mod Table

@@ -5,10 +5,11 @@ ghost use Rattle.std.specs.Prelude.{◌≡◌, ◌%◌, ◌^◌, ◌≤◌};
 ghost use Rattle.bitvec.specs.Arithmetic.{signed};
 ghost use Rattle.bitvec.specs.Examples.{Worked};
 ghost use Rattle.bitvec.specs.Laws.{Lawful};
+ghost use Rattle.bitvec.specs.Names.{operation_spelling};
 ghost use Rattle.bitvec.specs.Table.{applied, joined, Fitting};
 
 // The operations of the theory of bit-vectors: `Not` is its `bvnot`, and so on, and `Concat` its `concat`.
-#[derive(Clone, Copy)]
+#[derive(Clone, Copy, Debug, PartialEq, Eq)]
 pub enum Operation {
     Not,
     Neg,
@@ -29,14 +30,42 @@ pub enum Operation {
     Concat,
 }
 
+impl Operation {
+    // How the theory writes the operation.
+    pub fn name(self) -> &'static str
+        ensures { result.now ≡ operation_spelling self }
+    {
+        match self {
+            Operation::Not => "bvnot",
+            Operation::Neg => "bvneg",
+            Operation::Add => "bvadd",
+            Operation::Sub => "bvsub",
+            Operation::Mul => "bvmul",
+            Operation::Udiv => "bvudiv",
+            Operation::Urem => "bvurem",
+            Operation::And => "bvand",
+            Operation::Or => "bvor",
+            Operation::Xor => "bvxor",
+            Operation::Shl => "bvshl",
+            Operation::Lshr => "bvlshr",
+            Operation::Ult => "bvult",
+            Operation::Ule => "bvule",
+            Operation::Slt => "bvslt",
+            Operation::Sle => "bvsle",
+            Operation::Concat => "concat",
+        }
+    }
+}
+
 // The sort of an answer: a truth value, with the number 0 or 1, or a bit-vector of so many bits.
-#[derive(Clone, Copy)]
+#[derive(Clone, Copy, Debug, PartialEq, Eq)]
 pub enum Sort {
     Bool,
     Bits(u8),
 }
 
 // The lowest bits of a number.
+#[tactic(auto, using(crate::proofs::Masks::mask))]
 fn masked(n: u16, width: u8) -> u16
     requires { width ≤ 16 }
     ensures { result ≡ n % 2 ^ width }
@@ -50,29 +79,34 @@ fn signed_of(n: u16, width: u8) -> i32
     ensures { result ≡ signed width n }
 {
     let size = 1i32 << width;
-    if (n as i32) < size / 2 {
-        n as i32
+    if i32::from(n) < size / 2 {
+        i32::from(n)
     } else {
-        n as i32 - size
+        i32::from(n) - size
     }
 }
 
 // The first number above the second; bits past the sixteenth are dropped.
+#[tactic(auto, using(crate::proofs::Masks::joining))]
 fn join(width: u8, low: u8, a: u16, b: u16) -> (Sort, u16)
     ensures joined { result ≡ joined width low a b }
     ensures fits { Fitting result }
 {
     let v = low.min(16);
     let w = width.min(16 - v);
-    let upper = (masked(a, w) as u32) << v;
-    let lower = masked(b, v) as u32;
+    let upper = u32::from(masked(a, w)) << v;
+    let lower = u32::from(masked(b, v));
     (Sort::Bits(w + v), (upper | lower) as u16)
 }
 
-// The operation itself, on the lowest bits of its operands.
-fn computed(op: Operation, width: u8, low: u8, a: u16, b: u16) -> (Sort, u16)
+// One operation at a width, on the lowest bits of both operands; a width above 16 counts as 16.
+// `low` is the width of the second operand of `Concat`; no other operation reads it.
+#[tactic(auto, using(crate::proofs::Masks::wraps, crate::proofs::Bitwise::bits, crate::proofs::Laws::lawful, crate::proofs::Laws::worked))]
+pub fn apply(op: Operation, width: u8, low: u8, a: u16, b: u16) -> (Sort, u16)
     ensures defined { result ≡ applied op width low a b }
     ensures fits { Fitting result }
+    ensures laws { Lawful }
+    ensures examples { Worked }
 {
     let w = width.min(16);
     let x = masked(a, w);
@@ -83,16 +117,16 @@ fn computed(op: Operation, width: u8, low: u8, a: u16, b: u16) -> (Sort, u16)
         Operation::Add => (Sort::Bits(w), masked(x.wrapping_add(y), w)),
         Operation::Sub => (Sort::Bits(w), masked(x.wrapping_sub(y), w)),
         Operation::Mul => (Sort::Bits(w), masked(x.wrapping_mul(y), w)),
-        Operation::Udiv if y == 0 => (Sort::Bits(w), masked(65535, w)),
+        Operation::Udiv if y == 0 => (Sort::Bits(w), masked(u16::MAX, w)),
         Operation::Udiv => (Sort::Bits(w), x / y),
         Operation::Urem if y == 0 => (Sort::Bits(w), x),
         Operation::Urem => (Sort::Bits(w), x % y),
         Operation::And => (Sort::Bits(w), x & y),
         Operation::Or => (Sort::Bits(w), x | y),
         Operation::Xor => (Sort::Bits(w), x ^ y),
-        Operation::Shl if w as u16 <= y => (Sort::Bits(w), 0),
+        Operation::Shl if u16::from(w) <= y => (Sort::Bits(w), 0),
         Operation::Shl => (Sort::Bits(w), masked(x << y, w)),
-        Operation::Lshr if w as u16 <= y => (Sort::Bits(w), 0),
+        Operation::Lshr if u16::from(w) <= y => (Sort::Bits(w), 0),
         Operation::Lshr => (Sort::Bits(w), x >> y),
         Operation::Ult => (Sort::Bool, u16::from(x < y)),
         Operation::Ule => (Sort::Bool, u16::from(x <= y)),
@@ -100,15 +134,4 @@ fn computed(op: Operation, width: u8, low: u8, a: u16, b: u16) -> (Sort, u16)
         Operation::Sle => (Sort::Bool, u16::from(signed_of(x, w) <= signed_of(y, w))),
         Operation::Concat => join(width, low, a, b),
     }
-}
-
-// One operation at a width, on the lowest bits of both operands; a width above 16 counts as 16.
-// `low` is the width of the second operand of `Concat`; no other operation reads it.
-pub fn apply(op: Operation, width: u8, low: u8, a: u16, b: u16) -> (Sort, u16)
-    ensures defined { result ≡ applied op width low a b }
-    ensures fits { Fitting result }
-    ensures laws { Lawful }
-    ensures examples { Worked }
-{
-    computed(op, width, low, a, b)
 }

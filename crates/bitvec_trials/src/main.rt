@@ -5,23 +5,23 @@
 use bitvec::{Operation, Sort, apply};
 use std::io;
 
-static OPERATIONS: [(Operation, &str); 16] = [
-    (Operation::Not, "bvnot"),
-    (Operation::Neg, "bvneg"),
-    (Operation::Add, "bvadd"),
-    (Operation::Sub, "bvsub"),
-    (Operation::Mul, "bvmul"),
-    (Operation::Udiv, "bvudiv"),
-    (Operation::Urem, "bvurem"),
-    (Operation::And, "bvand"),
-    (Operation::Or, "bvor"),
-    (Operation::Xor, "bvxor"),
-    (Operation::Shl, "bvshl"),
-    (Operation::Lshr, "bvlshr"),
-    (Operation::Ult, "bvult"),
-    (Operation::Ule, "bvule"),
-    (Operation::Slt, "bvslt"),
-    (Operation::Sle, "bvsle"),
+static OPERATIONS: [Operation; 16] = [
+    Operation::Not,
+    Operation::Neg,
+    Operation::Add,
+    Operation::Sub,
+    Operation::Mul,
+    Operation::Udiv,
+    Operation::Urem,
+    Operation::And,
+    Operation::Or,
+    Operation::Xor,
+    Operation::Shl,
+    Operation::Lshr,
+    Operation::Ult,
+    Operation::Ule,
+    Operation::Slt,
+    Operation::Sle,
 ];
 
 static WIDTHS: [u8; 7] = [1, 2, 3, 4, 8, 15, 16];
@@ -72,40 +72,35 @@ fn operands(width: u8) -> &'static [u16] {
     }
 }
 
-// The width of an answer, and 0 for a truth value.
-fn bits(sort: Sort) -> u8 {
-    match sort {
-        Sort::Bool => 0,
-        Sort::Bits(w) => w,
-    }
-}
-
 // One line: the name, the widths and a first operand, then for each second operand the answer's width and number.
-fn line(rt: &HostRuntime, name: &str, op: Operation, width: u8, low: u8, a: u16) -> io::Result<()> {
+// A truth value has the width 0.
+fn line(rt: &HostRuntime, op: Operation, width: u8, low: u8, a: u16) -> io::Result<()> {
+    let name = op.name();
     print!(rt; "{name} {width} {low} {a:x}:")?;
     for b in operands(low) {
-        let (sort, n) = apply(op, width, low, a, *b);
-        let w = bits(sort);
-        print!(rt; " {w}.{n:x}")?;
+        match apply(op, width, low, a, *b) {
+            (Sort::Bool, n) => print!(rt; " 0.{n:x}")?,
+            (Sort::Bits(w), n) => print!(rt; " {w}.{n:x}")?,
+        }
     }
     println!(rt; "")
 }
 
-fn lines(rt: &HostRuntime, name: &str, op: Operation, width: u8, low: u8) -> io::Result<()> {
+fn lines(rt: &HostRuntime, op: Operation, width: u8, low: u8) -> io::Result<()> {
     for a in operands(width) {
-        line(rt, name, op, width, low, *a)?;
+        line(rt, op, width, low, *a)?;
     }
     Ok(())
 }
 
 fn main(rt: HostRuntime) -> io::Result<()> {
-    for (op, name) in OPERATIONS {
+    for op in OPERATIONS {
         for width in WIDTHS {
-            lines(&rt, name, op, width, width)?;
+            lines(&rt, op, width, width)?;
         }
     }
     for (width, low) in PAIRS {
-        lines(&rt, "concat", Operation::Concat, width, low)?;
+        lines(&rt, Operation::Concat, width, low)?;
     }
     Ok(())
 }

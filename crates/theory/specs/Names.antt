@@ -1,31 +1,17 @@
 -- The names of the theories' functions, and in which logic they stand.
 use Rattle.std.specs.Prelude.{◌≡◌, ℕ, ◌↔◌, List, [], ◌∷◌, ◌++◌, Some, codes, Option}
-use Rattle.bitvec.specs.declared.Operation.{Operation}
 use Rattle.bitvec.specs.declared.Operation.TheVariants as bits
-use Rattle.theory.specs.Spelled.{first}
+use Rattle.bitvec.specs.Names.{operation_spelling}
+use Rattle.words.specs.Spelled.{first}
 use Rattle.theory.specs.declared.Logic.{Logic}
 use Rattle.theory.specs.declared.Logic.TheVariants.{QfUf, QfBv}
 use Rattle.theory.specs.declared.Operator.{Operator}
 use Rattle.theory.specs.declared.Operator.TheVariants.{True, False, Not, Ite, And, Or, Xor, Implies, Equal, Distinct, Bits}
 
-abbrev pub operation_spelling : Operation → List ℕ
-operation_spelling bits.Not = codes "bvnot"
-operation_spelling bits.Neg = codes "bvneg"
-operation_spelling bits.Add = codes "bvadd"
-operation_spelling bits.Sub = codes "bvsub"
-operation_spelling bits.Mul = codes "bvmul"
-operation_spelling bits.Udiv = codes "bvudiv"
-operation_spelling bits.Urem = codes "bvurem"
-operation_spelling bits.And = codes "bvand"
-operation_spelling bits.Or = codes "bvor"
-operation_spelling bits.Xor = codes "bvxor"
-operation_spelling bits.Shl = codes "bvshl"
-operation_spelling bits.Lshr = codes "bvlshr"
-operation_spelling bits.Ult = codes "bvult"
-operation_spelling bits.Ule = codes "bvule"
-operation_spelling bits.Slt = codes "bvslt"
-operation_spelling bits.Sle = codes "bvsle"
-operation_spelling bits.Concat = codes "concat"
+-- How a logic is written.
+abbrev pub logic_spelling : Logic → List ℕ
+logic_spelling QfUf = codes "QF_UF"
+logic_spelling QfBv = codes "QF_BV"
 
 -- How a function of the theories is written.
 abbrev pub spelling : Operator → List ℕ

@@ -3,17 +3,16 @@
 
 pub mod names;
 pub mod ranks;
-pub mod spelled;
 
 use bitvec::Operation;
 
-#[derive(Clone, Copy)]
+#[derive(Clone, Copy, Debug, PartialEq, Eq)]
 pub enum Logic {
     QfUf,
     QfBv,
 }
 
-#[derive(Clone, Copy)]
+#[derive(Clone, Copy, Debug, PartialEq, Eq)]
 pub enum Sort {
     Bool,
     // bit-vectors of this width
@@ -23,7 +22,7 @@ pub enum Sort {
 }
 
 // A function of the theories.
-#[derive(Clone, Copy)]
+#[derive(Clone, Copy, Debug, PartialEq, Eq)]
 pub enum Operator {
     True,
     False,
@@ -39,14 +38,14 @@ pub enum Operator {
 }
 
 // What an application applies: a function of the theories, or a declared one by its number among those that stand.
-#[derive(Clone, Copy)]
+#[derive(Clone, Copy, Debug, PartialEq, Eq)]
 pub enum Head {
     Theory(Operator),
     Declared(u8),
 }
 
 // Why an application has no sort.
-#[derive(Clone, Copy)]
+#[derive(Clone, Copy, Debug, PartialEq, Eq)]
 pub enum RankFault {
     // a wrong number of parts, or parts of wrong sorts
     Mismatch,

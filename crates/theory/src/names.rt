@@ -1,95 +1,88 @@
 // The functions of the theories by their names.
 ghost use Rattle.std.specs.Prelude.{◌≡◌};
-ghost use Rattle.words.specs.Words.{same};
-ghost use Rattle.theory.specs.Names.{operation_spelling, spelling as written, operator_of, Named};
+ghost use Rattle.theory.specs.Names.{logic_spelling, spelling, operators, operator_of, Named};
 
-use crate::spelled::{Spelled, first};
 use crate::{Logic, Operator};
 use bitvec::Operation;
-use words::same;
+use words::spelled::{Spelled, first};
 
-// The name is that of the bit-vector operation.
-fn names_operation(operation: Operation, name: &[u8]) -> bool
-    ensures { result ≡ same name.now (operation_spelling operation) }
-{
-    match operation {
-        Operation::Not => same(name, b"bvnot"),
-        Operation::Neg => same(name, b"bvneg"),
-        Operation::Add => same(name, b"bvadd"),
-        Operation::Sub => same(name, b"bvsub"),
-        Operation::Mul => same(name, b"bvmul"),
-        Operation::Udiv => same(name, b"bvudiv"),
-        Operation::Urem => same(name, b"bvurem"),
-        Operation::And => same(name, b"bvand"),
-        Operation::Or => same(name, b"bvor"),
-        Operation::Xor => same(name, b"bvxor"),
-        Operation::Shl => same(name, b"bvshl"),
-        Operation::Lshr => same(name, b"bvlshr"),
-        Operation::Ult => same(name, b"bvult"),
-        Operation::Ule => same(name, b"bvule"),
-        Operation::Slt => same(name, b"bvslt"),
-        Operation::Sle => same(name, b"bvsle"),
-        Operation::Concat => same(name, b"concat"),
-    }
-}
+impl Spelled for Logic {
+    ghost written = { logic_spelling };
 
-impl Spelled for Operator {
-    ghost spelling = { written };
-
-    fn spells(&self, name: &[u8]) -> bool {
+    fn spelling(&self) -> &'static [u8] {
         match *self {
-            Operator::True => same(name, b"true"),
-            Operator::False => same(name, b"false"),
-            Operator::Not => same(name, b"not"),
-            Operator::Ite => same(name, b"ite"),
-            Operator::And => same(name, b"and"),
-            Operator::Or => same(name, b"or"),
-            Operator::Xor => same(name, b"xor"),
-            Operator::Implies => same(name, b"=>"),
-            Operator::Equal => same(name, b"="),
-            Operator::Distinct => same(name, b"distinct"),
-            Operator::Bits(operation) => names_operation(operation, name),
+            Logic::QfUf => b"QF_UF",
+            Logic::QfBv => b"QF_BV",
         }
     }
 }
 
+impl Spelled for Operator {
+    ghost written = { spelling };
+
+    fn spelling(&self) -> &'static [u8] {
+        match *self {
+            Operator::True => b"true",
+            Operator::False => b"false",
+            Operator::Not => b"not",
+            Operator::Ite => b"ite",
+            Operator::And => b"and",
+            Operator::Or => b"or",
+            Operator::Xor => b"xor",
+            Operator::Implies => b"=>",
+            Operator::Equal => b"=",
+            Operator::Distinct => b"distinct",
+            Operator::Bits(operation) => operation.name().as_bytes(),
+        }
+    }
+}
+
+// Those of QF_UF come first.
+static OPERATORS: [Operator; 27] = [
+    Operator::True,
+    Operator::False,
+    Operator::Not,
+    Operator::Ite,
+    Operator::And,
+    Operator::Or,
+    Operator::Xor,
+    Operator::Implies,
+    Operator::Equal,
+    Operator::Distinct,
+    Operator::Bits(Operation::Not),
+    Operator::Bits(Operation::Neg),
+    Operator::Bits(Operation::Add),
+    Operator::Bits(Operation::Sub),
+    Operator::Bits(Operation::Mul),
+    Operator::Bits(Operation::Udiv),
+    Operator::Bits(Operation::Urem),
+    Operator::Bits(Operation::And),
+    Operator::Bits(Operation::Or),
+    Operator::Bits(Operation::Xor),
+    Operator::Bits(Operation::Shl),
+    Operator::Bits(Operation::Lshr),
+    Operator::Bits(Operation::Ult),
+    Operator::Bits(Operation::Ule),
+    Operator::Bits(Operation::Slt),
+    Operator::Bits(Operation::Sle),
+    Operator::Bits(Operation::Concat),
+];
+
+// The functions of the logic.
+fn operators(logic: Logic) -> &'static [Operator]
+    ensures { result.now ≡ operators logic }
+{
+    match logic {
+        Logic::QfUf => &OPERATORS[..10],
+        Logic::QfBv => &OPERATORS,
+    }
+}
+
 // The function of this name in the logic, if one stands there.
+#[tactic(auto, unfolding(crate::specs::Names::operator_of))]
 pub fn operator_of(logic: Logic, name: &[u8]) -> Option<Operator>
     ensures value { result ≡ operator_of logic name.now }
     ensures law { Named logic name.now result }
 {
-    // those of QF_UF come first
-    let operators = [
-        Operator::True,
-        Operator::False,
-        Operator::Not,
-        Operator::Ite,
-        Operator::And,
-        Operator::Or,
-        Operator::Xor,
-        Operator::Implies,
-        Operator::Equal,
-        Operator::Distinct,
-        Operator::Bits(Operation::Not),
-        Operator::Bits(Operation::Neg),
-        Operator::Bits(Operation::Add),
-        Operator::Bits(Operation::Sub),
-        Operator::Bits(Operation::Mul),
-        Operator::Bits(Operation::Udiv),
-        Operator::Bits(Operation::Urem),
-        Operator::Bits(Operation::And),
-        Operator::Bits(Operation::Or),
-        Operator::Bits(Operation::Xor),
-        Operator::Bits(Operation::Shl),
-        Operator::Bits(Operation::Lshr),
-        Operator::Bits(Operation::Ult),
-        Operator::Bits(Operation::Ule),
-        Operator::Bits(Operation::Slt),
-        Operator::Bits(Operation::Sle),
-        Operator::Bits(Operation::Concat),
-    ];
-    match logic {
-        Logic::QfUf => first(&operators[0..10], name),
-        Logic::QfBv => first(&operators, name),
-    }
+    first(operators(logic), name)
 }

@@ -1,13 +1,9 @@
 -- The reserved words: those of the thirteen commands, and some others. None of them stands as a symbol.
-use Rattle.std.specs.Prelude.{◌≡◌, ℕ, Bool, true, false, cond, ◌&&◌, ◌↔◌, List, [], ◌∷◌, Some, None, codes, Option, ◌==◌}
+use Rattle.std.specs.Prelude.{◌≡◌, ℕ, ◌↔◌, List, [], ◌∷◌, Some, codes, Option}
+unfoldable pub use Rattle.words.specs.Spelled.{same}
+use Rattle.words.specs.Spelled.{first}
 use Rattle.words.specs.declared.Word.{Word}
 use Rattle.words.specs.declared.Word.TheVariants.{Push, Pop, Assert, CheckSat, DeclareConst, DeclareFun, DeclareSort, CheckSatAssuming, GetValue, GetInfo, SetLogic, Reset, Exit, Underscore, Bang, As, Let, Exists, Forall, Match, Par, Binary, Decimal, Hexadecimal, Numerals, Strings}
-
-unfoldable pub same : List ℕ → List ℕ → Bool
-same [] [] = true
-same [] (y ∷ ys) = false
-same (x ∷ xs) [] = false
-same (x ∷ xs) (y ∷ ys) = x == y && same xs ys
 
 -- How a word is written.
 abbrev pub spelling : Word → List ℕ
@@ -38,23 +34,12 @@ spelling Hexadecimal = codes "HEXADECIMAL"
 spelling Numerals = codes "NUMERAL"
 spelling Strings = codes "STRING"
 
-abbrev pub spelt : Word → List ℕ → Bool
-spelt w bs = same bs (spelling w)
-
--- These bytes are this word: shut for its users.
-unfoldable pub spells : Word → List ℕ → Bool
-spells w bs = spelt w bs
-
 abbrev pub all_words : List Word
 all_words = Push ∷ Pop ∷ Assert ∷ CheckSat ∷ DeclareConst ∷ DeclareFun ∷ DeclareSort ∷ CheckSatAssuming ∷ GetValue ∷ GetInfo ∷ SetLogic ∷ Reset ∷ Exit ∷ Underscore ∷ Bang ∷ As ∷ Let ∷ Exists ∷ Forall ∷ Match ∷ Par ∷ Binary ∷ Decimal ∷ Hexadecimal ∷ Numerals ∷ Strings ∷ []
 
-abbrev pub first : List Word → List ℕ → Option Word
-first [] bs = None
-first (w ∷ ws) bs = cond (spells w bs) (Some w) (first ws bs)
-
--- The reserved word that these bytes are, if any.
+-- The reserved word that these bytes are, if any: shut for its users.
 unfoldable pub word_of : List ℕ → Option Word
-word_of bs = first all_words bs
+word_of bs = first spelling all_words bs
 
 -- A word is told exactly by its spelling.
 abbrev pub Told : List ℕ → Option Word → Type 0

@@ -1,11 +1,7 @@
-use Rattle.std.proofs.Common.{sym, subst}
-use Rattle.words.specs.Words.{word_of, Told}
+use Rattle.words.specs.Words.{word_of}
 use Rattle.words.proofs.Spellings.{told}
 use Rattle.words.proofs.word_of.Goals as goal
 
-pub returns : goal.returns
+pub returns-clause-law : goal.returns-clause-law
 unfolding word_of
-returns c = record {
-  value = c.first.ensures;
-  law = subst (Told c.args.name.now) (sym c.first.ensures) (told c.args.name.now);
-}
+returns-clause-law c = rw c.first.ensures (told c.args.name.now)

@@ -1,13 +1,11 @@
-use Rattle.std.proofs.Common.{rules}
-use Rattle.std.proofs.lemmas.List.{at_drop_more, at_drop_all}
-use Rattle.theory.specs.Ranks.{all_are}
+use Rattle.std.proofs.Common.{rules, ◌∙◌}
+use Rattle.std.proofs.lemmas.Iterator.{YieldsList-from_slice}
+use Rattle.std.proofs.lemmas.Iterator.Search.{all_from_yields_List}
+use Rattle.theory.specs.contracts.SortPartialEq.TheImpl.{eq-value}
+use Rattle.theory.proofs.Sorts.{all_eq_is}
 use Rattle.theory.proofs.ranks.all_are.Goals as goal
 
-pub returns-then-not-same_sort : goal.returns-then-not-same_sort
-returns-then-not-same_sort c = search (rules, at_drop_more (all_are c.args.sort))
-
-pub loop-one-preserved : goal.loop-one-preserved
-loop-one-preserved c = search (rules, at_drop_more (all_are c.args.sort))
-
 pub returns : goal.returns
-returns c = search (rules, at_drop_all (all_are c.args.sort))
+returns c =
+    all_from_yields_List (eq-value.it c.args.sort) _ _ c.all.result c.all.ensures.ran (YieldsList-from_slice c.args.parts.now cc) (λ x b q k. search rules)
+    ∙ all_eq_is c.args.sort c.args.parts.now
