@@ -1,20 +1,12 @@
 -- The number of a name among those of rows.
-use Rattle.std.proofs.Common.{◌≡◌, ◌+◌, ◌&&◌, ℕ, suc, eqb, List, [], ◌∷◌, map, position, sym, refl, ap, ◌∙◌, arith}
+use Rattle.std.proofs.Common.{◌≡◌, ◌+◌, ℕ, suc, List, [], ◌∷◌, map, position, sym, refl, ap, ◌∙◌, arith}
 use Rattle.std.proofs.lemmas.Iterator.Adapters.{position_from-zero}
 use Rattle.std.specs.Str.{bytes_eq}
 use Rattle.std.specs.List.{position_from}
-use Rattle.words.specs.Words.{same}
+use Rattle.words.proofs.Found.{same_is}
 use Rattle.terms.specs.Scoping.{numbered_from, number_in, function_names}
 use Rattle.tables.specs.declared.rows.FunctionRow.{FunctionRow}
 use Rattle.tables.specs.Stores.{name_in, function_in}
-
--- what `==` of two names computes
-pub same_is : (xs ys : List ℕ) → bytes_eq xs ys ≡ same xs ys
-unfolding same
-same_is [] [] = refl
-same_is [] (y ∷ ys) = refl
-same_is (x ∷ xs) [] = refl
-same_is (x ∷ xs) (y ∷ ys) = ap (λ b. eqb x y && b) (same_is xs ys)
 
 numbered : {R : Type 0} (name : R → List ℕ) (k : ℕ) (rows : List R) (bs : List ℕ) → numbered_from k (map name rows) bs ≡ position_from (λ r. bytes_eq (name r) bs) k rows
 numbered name k [] bs = refl

@@ -50,7 +50,7 @@ pub fn head_of(tables: &Tables, name: &[u8]) -> Option<Head>
 }
 
 // This is how the sort of truth values is written.
-#[tactic(auto, using(crate::proofs::Names::same_is), unfolding(terms::specs::Scoping::is_bool_name))]
+#[tactic(auto, using(words::proofs::Found::same_is), unfolding(terms::specs::Scoping::is_bool_name))]
 fn is_bool_name(name: &[u8]) -> bool
     ensures { result ≡ is_bool_name name.now }
 {

@@ -4,7 +4,7 @@
 use theory::Head;
 
 // An application whose closing parenthesis is still to come: its head, the head's place, and how many operands were there before it.
-#[derive(Clone, Copy)]
+#[derive(Clone, Copy, Debug, PartialEq, Eq)]
 pub struct Frame {
     pub head: Head,
     pub place: usize,

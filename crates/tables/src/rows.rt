@@ -45,14 +45,14 @@ impl Named for FunctionRow {
 }
 
 // A bit-vector by its width and number, or an application.
-#[derive(Clone, Copy)]
+#[derive(Clone, Copy, Debug, PartialEq, Eq)]
 pub enum Node {
     Literal(u8, u16),
     Apply(Head),
 }
 
 // A term, with the place of its parts in the table of parts, and their number.
-#[derive(Clone, Copy)]
+#[derive(Clone, Copy, Debug, PartialEq, Eq)]
 pub struct TermRow {
     pub(crate) node: Node,
     pub(crate) first: usize,

@@ -1,5 +1,5 @@
 -- A function of the theories is told by its name.
-use Rattle.std.proofs.Common.{◌≡◌, ℕ, List, Some, refl, subst}
+use Rattle.std.proofs.Common.{◌≡◌, ℕ, List, Some, refl, rules, subst}
 use Rattle.bitvec.specs.declared.Operation.TheVariants as bits
 use Rattle.words.proofs.Found.{found_spells, found_holds}
 use Rattle.theory.specs.declared.Logic.{Logic}
@@ -20,7 +20,7 @@ itself QfBv (Bits _) h = refl
 itself QfBv _ h = refl
 
 stands : (l : Logic) (bs : List ℕ) (o : Operator) → first spelling (operators l) bs ≡ Some o → Stands l o
-stands QfUf bs o e = found_holds (Stands QfUf) spelling core bs o (tt, (tt, (tt, (tt, (tt, (tt, (tt, (tt, (tt, (tt, tt)))))))))) e
+stands QfUf bs o e = found_holds (Stands QfUf) spelling core bs o (search rules) e
 stands QfBv bs o e = tt
 
 pub named : (l : Logic) (bs : List ℕ) → Named l bs (operator_of l bs)
