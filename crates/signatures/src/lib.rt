@@ -20,6 +20,7 @@ use tables::short::Short;
 use tables::store::Tables;
 use terms::SortFault;
 use theory::Sort;
+use tokens::text::Tokens;
 use tokens::{Kind, Token, bytes_of};
 
 pub mod reader;
@@ -97,13 +98,12 @@ impl Signature {
         Ok(())
     }
 
-    fn follow(&mut self, tables: &Tables, text: &[u8], tokens: &[Token]) -> Result<(), SortFault>
-        requires few { length tokens.now ≤ 4096 }
-        requires none { items_in self.old.sorts ≡ [] }
-        ensures { read (scope_of (record_of tables.now)) (listed_in self.old) (marks text.now tokens.now) ≡ placed result (listed_in self.new) }
+    fn follow(&mut self, tables: &Tables, tokens: Tokens<'_>) -> Result<(), SortFault>
+        requires { items_in self.old.sorts ≡ [] }
+        ensures { read (scope_of (record_of tables.now)) (listed_in self.old) (marks tokens.entry.text.now tokens.entry.rows.now) ≡ placed result (listed_in self.new) }
     {
-        for token in tokens {
-            self.step(tables, text, *token)?;
+        for token in tokens.rows {
+            self.step(tables, tokens.text, *token)?;
         }
         Ok(())
     }
@@ -113,18 +113,16 @@ impl Signature {
     pub fn read(
         &mut self,
         tables: &Tables,
-        text: &[u8],
-        tokens: &[Token],
+        tokens: Tokens<'_>,
         arity: Option<usize>,
     ) -> Result<(), SortFault>
-        requires { length tokens.now ≤ 4096 }
-        ensures value { read (scope_of (record_of tables.now)) (listed [] None arity) (marks text.now tokens.now) ≡ placed result (listed_in self.new) }
-        ensures law { Follows (scope_of (record_of tables.now)) (marks text.now tokens.now) arity result (listed_in self.new) }
+        ensures value { read (scope_of (record_of tables.now)) (listed [] None arity) (marks tokens.entry.text.now tokens.entry.rows.now) ≡ placed result (listed_in self.new) }
+        ensures law { Follows (scope_of (record_of tables.now)) (marks tokens.entry.text.now tokens.entry.rows.now) arity result (listed_in self.new) }
     {
         self.sorts.clear();
         self.bits = None;
         self.arity = arity;
-        self.follow(tables, text, tokens)
+        self.follow(tables, tokens)
     }
 
     // The function whose sorts were read, with its name; none if it has more than four arguments.

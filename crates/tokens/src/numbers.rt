@@ -49,7 +49,9 @@ fn value_of(base: u16, run: &[u8]) -> Option<u16>
     }
     let mut value: u16 = 0;
     for byte in run {
-        value = value.wrapping_mul(base).wrapping_add(digit_in(base, *byte)?);
+        value = value
+            .wrapping_mul(base)
+            .wrapping_add(digit_in(base, *byte)?);
     }
     Some(value)
 }

@@ -29,7 +29,7 @@ impl<'a> Text<'a> {
 pub struct Tokens<'a> {
     pub text: &'a [u8],
     pub rows: &'a [Token],
-    ghost few: { length rows.now ≤ 4096 },
+    pub ghost few: { length rows.now ≤ 4096 },
 }
 
 // A place inside a text, at which a token may begin.

@@ -1,6 +1,6 @@
 use Rattle.std.proofs.Common.{rules}
-use Rattle.std.proofs.lemmas.List.{at_drop_more, at_drop_all}
-use Rattle.tokens.specs.Numbers.{all_digits, decimal_from, numeral}
+use Rattle.std.proofs.lemmas.List.{at_drop_more}
+use Rattle.tokens.specs.Numbers.{decimal_from, numeral}
 use Rattle.tokens.proofs.Values.{grows}
 use Rattle.tokens.proofs.numbers.numeral.Goals as goal
 

@@ -1,5 +1,5 @@
 use Rattle.std.proofs.Common.{rules}
-use Rattle.std.proofs.lemmas.List.{at_drop_more, at_drop_all}
+use Rattle.std.proofs.lemmas.List.{at_drop_more}
 use Rattle.tokens.specs.Numbers.{number_from}
 use Rattle.tokens.proofs.Values.{low_step}
 use Rattle.tokens.proofs.numbers.value_of.Goals as goal

@@ -10,4 +10,4 @@ use Rattle.signatures.proofs.reader.Signature.follow.Given as goal
 abbrev pub invariant-loop-token : goal.invariant-loop-token
 invariant-loop-token l =
     (length (items_in l.self.sorts) ≤ l.token-index)
-    × (read (scope_of (record_of l.tables)) (listed_in l.self) (marks l.text (drop l.token-index l.tokens)) ≡ read (scope_of (record_of l.tables)) (listed_in l.initial.self) (marks l.text l.tokens))
+    × (read (scope_of (record_of l.tables)) (listed_in l.self) (marks l.tokens.text.now (drop l.token-index l.tokens.rows.now)) ≡ read (scope_of (record_of l.tables)) (listed_in l.initial.self) (marks l.tokens.text.now l.tokens.rows.now))
