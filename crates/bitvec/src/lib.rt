@@ -64,7 +64,7 @@ pub enum Sort {
     Bits(u8),
 }
 
-// The lowest bits of a number.
+// The lowest bits of a number. The bound on the width is a clause of two functions here and of one that prints literals, which shares no type with this crate.
 #[tactic(auto, using(crate::proofs::Masks::mask))]
 fn masked(n: u16, width: u8) -> u16
     requires { width ≤ 16 }

@@ -82,6 +82,7 @@ pub fn is_word(byte: u8) -> bool
     }
 }
 
+// That an end or a length lies within the text is a clause of each function that answers one, since it speaks of the text beside the result.
 // The end of the blanks and comments that stand at `at`.
 pub fn skip_gap(text: &[u8], at: usize) -> usize
     requires { at ≤ length text.now }

@@ -78,7 +78,7 @@ impl Fault {
         }
     }
 
-    // The place in the command text that the refusal points at.
+    // The place in the command text that the refusal points at, 0 where it points at none: hosts are given a number in either case.
     pub fn place(self) -> usize
         ensures { result ≡ place_of self }
     {

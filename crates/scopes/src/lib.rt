@@ -38,6 +38,7 @@ pub struct ScopedStack<'a, 'b, 'c, 'd, T: Copy> {
 impl<'a, 'b, 'c, 'd, T: Copy> ScopedStack<'a, 'b, 'c, 'd, T> {
     ghost use Rattle.scopes.specs.Lent.{held, room, deepest, Same, AddCounts, OpenCounts, CloseCounts};
 
+    // `same` stands in each method's contract, since it speaks of before and after, which no field can.
     // Adds a row to the newest level.
     #[tactic(auto, using(crate::proofs::Depths::add_deep, std::proofs::lemmas::List::take_more_set))]
     pub fn add(&mut self, row: T) -> Result<(), NoRoom>

@@ -2,6 +2,7 @@
 ghost use Rattle.std.specs.Prelude.{◌≡◌, ◌≤◌, [], length};
 ghost use Rattle.scopes.specs.Stacks.{Sound};
 
+// Arrays with counts beside them, since the stack lends slices and nothing below the script takes memory from a heap.
 #[derive(Drop)]
 pub struct Table<T: Copy, const N: usize> {
     pub rows: [T; N],

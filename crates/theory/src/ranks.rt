@@ -13,13 +13,7 @@ pub fn same_sort(a: Sort, b: Sort) -> bool
     a == b
 }
 
-pub fn is_bool(sort: Sort) -> bool
-    ensures { result ≡ same_sort Sort.Bool sort }
-{
-    sort == Sort::Bool
-}
-
-// The same sorts in the same order.
+// The same sorts in the same order: what `==` tells, in the words of the ranks, which its callers' contracts use.
 #[tactic(auto, using(crate::proofs::Sorts::sorts_eq_is))]
 pub fn same_sorts(left: &[Sort], right: &[Sort]) -> bool
     ensures { result ≡ same_sorts left.now right.now }

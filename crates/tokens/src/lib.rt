@@ -66,6 +66,7 @@ fn named(kind: Kind, from: usize, end: usize) -> Result<Token, TokenFault>
     Ok(Token { kind, from, end })
 }
 
+// Where a token ends is a clause of each method, since it speaks of the result, and of the place only beside it.
 impl Place<'_> {
     fn name(self) -> Result<Token, TokenFault>
         ensures value { result ≡ lexeme_at Symbol self.entry }
