@@ -4,7 +4,7 @@
 ghost use Rattle.std.specs.Prelude.{◌≡◌, ◌+◌, ◌<◌, ◌≤◌, length, drop, IfSome};
 ghost use Rattle.std.specs.Option.{option_map};
 ghost use Rattle.grammar.specs.Machine.{step};
-ghost use Rattle.forms.specs.Forms.{open_behind, closed_list, deepest, number_of, word_command, command_of, fitted, formed};
+ghost use Rattle.forms.specs.Forms.{open_behind, closed_list, deepest, number_of, word_command, headed, sign_in, fitted, formed};
 ghost use Rattle.forms.specs.Laws.{Reading};
 
 use grammar::items::{Item, Misfit};
@@ -164,13 +164,11 @@ fn word_command(word: Word, operand: Token) -> Command
     }
 }
 
-// The command whose word is the second token and whose operand is the third.
-fn command_of(tokens: Tokens<'_>) -> Command
-    requires { 2 < length tokens.rows.now }
-    ensures { result ≡ command_of tokens.entry.text.now tokens.entry.rows.now }
+// The command of its word, the second token, and its operand, the third.
+fn command_of(text: &[u8], head: Token, operand: Token) -> Command
+    ensures { result ≡ headed (sign_in text.now head) operand }
 {
-    let operand = tokens.rows[2];
-    match sign_of(tokens.text, tokens.rows[1]) {
+    match sign_of(text, head) {
         Sign::Reserved(word) => word_command(word, operand),
         _ => Command::Other,
     }
@@ -188,5 +186,6 @@ pub fn read(tokens: Tokens<'_>, items: &mut [Item; 16388]) -> Result<Command, Fo
         return Err(FormFault::Nested(place));
     }
     fits(tokens, items).map_err(|misfit| FormFault::Outside(misfit.place(size)))?;
-    Ok(command_of(tokens))
+    let operand = tokens.rows[2];
+    Ok(command_of(tokens.text, tokens.rows[1], operand))
 }

@@ -11,8 +11,8 @@ returns-in-Some-clause-law c = reading_of _ _ _ (search rules)
 pub returns-in_err-map_err-2-clause-law : goal.returns-in_err-map_err-2-clause-law
 returns-in_err-map_err-2-clause-law c = reading_of _ _ _ (search rules)
 
-pub command_of-requires : goal.command_of-requires
-command_of-requires c = three_tokens c.args.tokens.text.now c.args.tokens.rows.now (search rules)
+pub bounds-tokens-2 : goal.bounds-tokens-2
+bounds-tokens-2 c = three_tokens c.args.tokens.text.now c.args.tokens.rows.now (search rules)
 
 pub returns-clause-law : goal.returns-clause-law
 returns-clause-law c = reading_of _ _ _ (search rules)
