@@ -84,11 +84,6 @@ tokens_from (suc most) text at = onto (next text at) (λ t. tokens_from most tex
 abbrev pub tokens : List ℕ → Result (List Token) TokenFault
 tokens text = tokens_from (length text) text 0
 
--- The table's first rows are the tokens, as many as is answered; or the fault is answered.
-abbrev pub Rows : Result (List Token) TokenFault → List Token → Result ℕ TokenFault → Type 0
-Rows (Ok ts) table r = (r ≡ Ok (length ts)) × (take (length ts) table ≡ ts)
-Rows (Err e) table r = r ≡ Err e
-
 -- The bytes of a token.
 abbrev pub bytes_of : List ℕ → Token → List ℕ
 bytes_of text t = take (t.end - t.from) (drop t.from text)
