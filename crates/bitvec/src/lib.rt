@@ -79,10 +79,11 @@ fn signed_of(n: u16, width: u8) -> i32
     ensures { result ≡ signed width n }
 {
     let size = 1i32 << width;
-    if i32::from(n) < size / 2 {
-        i32::from(n)
+    let value = i32::from(n);
+    if value < size / 2 {
+        value
     } else {
-        i32::from(n) - size
+        value - size
     }
 }
 
