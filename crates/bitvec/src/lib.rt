@@ -57,7 +57,7 @@ impl Operation {
     }
 }
 
-// The sort of an answer: a truth value, with the number 0 or 1, or a bit-vector of so many bits.
+// The sort of an answer: a truth value, with the number 0 or 1, or a bit-vector of so many bits. Sort and number are a pair, a rule of the project.
 #[derive(Clone, Copy, Debug, PartialEq, Eq)]
 pub enum Sort {
     Bool,

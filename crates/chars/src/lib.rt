@@ -82,14 +82,15 @@ pub fn is_word(byte: u8) -> bool
     }
 }
 
-// That an end or a length lies within the text is a clause of each function that answers one, since it speaks of the text beside the result.
 // The end of the blanks and comments that stand at `at`.
+// That an end or a length lies within the text, and the place within it, are clauses of each function, since they speak of the text beside a number.
 pub fn skip_gap(text: &[u8], at: usize) -> usize
     requires { at ≤ length text.now }
     ensures end { result ≡ at + gap false (drop at text.now) }
     ensures within { result ≤ length text.now }
     ensures law { Skipped text.now at result }
 {
+    // a flag: whether a comment is open is all the state that there is
     let mut comment = false;
     for (i, &byte) in text[at..].iter().enumerate() {
         match char::from(byte) {

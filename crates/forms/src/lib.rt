@@ -95,8 +95,8 @@ fn deepest(tokens: Tokens<'_>) -> Option<usize>
     None
 }
 
-// The table and its top stay two parameters, since the table is lent and fixed: no heap below the script.
 // One token against the stack of expected items, which stands from `top` to the table's end, the next item first. Answers the new top, or none where the token doesn't fit.
+// The table and its top are two parameters, since the table is lent and fixed: no heap below the script.
 fn advance(items: &mut [Item; 16388], top: usize, sign: Sign) -> Option<usize>
     requires low { 5 ≤ top }
     requires high { top ≤ 16388 }
@@ -176,6 +176,7 @@ fn command_of(text: &[u8], head: Token, operand: Token) -> Command
 
 // The command that the tokens of the text are. The table of items is room to work in.
 // One closed list first, then the nesting, then the form.
+#[tactic(auto, using(crate::proofs::Whole::reading_of))]
 pub fn read(tokens: Tokens<'_>, items: &mut [Item; 16388]) -> Result<Command, FormFault>
     ensures value { result ≡ formed tokens.entry.text.now tokens.entry.rows.now }
     ensures law { Reading tokens.entry.text.now tokens.entry.rows.now result }

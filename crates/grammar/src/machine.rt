@@ -33,6 +33,25 @@ fn form_of(word: Word) -> Option<&'static [Item]>
     }
 }
 
+// `(_ BitVec w)` behind its parenthesis, alone and among others.
+static BITS: [Item; 4] = [
+    Item::AnUnderscore,
+    Item::ABitVec,
+    Item::ANumeral,
+    Item::CloseList,
+];
+
+static BITS_AND_SORTS: [Item; 5] = [
+    Item::AnUnderscore,
+    Item::ABitVec,
+    Item::ANumeral,
+    Item::CloseList,
+    Item::Sorts,
+];
+
+// `(not n)` behind its parenthesis, among other assumptions.
+static NEGATED: [Item; 4] = [Item::ANot, Item::AName, Item::CloseList, Item::Assumptions];
+
 // What is expected in place of the item once the token is read.
 #[tactic(auto, unfolding(crate::specs::Machine::replacement))]
 pub fn replacement(item: Item, sign: Sign) -> Option<&'static [Item]>
@@ -41,10 +60,8 @@ pub fn replacement(item: Item, sign: Sign) -> Option<&'static [Item]>
 {
     match (item, sign) {
         (Item::OpenList, Sign::Open)
-        | (
-            Item::CloseList | Item::Sorts | Item::Terms | Item::Assumptions | Item::Anything,
-            Sign::Close,
-        )
+        | (Item::CloseList | Item::Sorts | Item::Terms, Sign::Close)
+        | (Item::Assumptions | Item::Anything, Sign::Close)
         | (Item::AKeyword, Sign::Key)
         | (Item::ANumeral, Sign::Number(_))
         | (Item::AZero, Sign::Number(0))
@@ -55,31 +72,14 @@ pub fn replacement(item: Item, sign: Sign) -> Option<&'static [Item]>
         | (Item::ANot, Sign::Not) => Some(&[]),
         (Item::Command, Sign::Reserved(word)) => form_of(word),
         (Item::Command, Sign::Symbol | Sign::BitVec | Sign::Not) => Some(&[Item::Anything]),
-        (Item::ASort, Sign::Open) => Some(&[
-            Item::AnUnderscore,
-            Item::ABitVec,
-            Item::ANumeral,
-            Item::CloseList,
-        ]),
-        (Item::Sorts, Sign::Open) => Some(&[
-            Item::AnUnderscore,
-            Item::ABitVec,
-            Item::ANumeral,
-            Item::CloseList,
-            Item::Sorts,
-        ]),
+        (Item::ASort, Sign::Open) => Some(&BITS),
+        (Item::Sorts, Sign::Open) => Some(&BITS_AND_SORTS),
         (Item::Sorts, Sign::Symbol | Sign::BitVec | Sign::Not) => Some(&[Item::Sorts]),
         (Item::ATerm, Sign::Open) => Some(&[Item::AName, Item::ATerm, Item::Terms]),
         (Item::Terms, Sign::Open) => Some(&[Item::AName, Item::ATerm, Item::Terms, Item::Terms]),
-        (Item::Terms, Sign::Symbol | Sign::BitVec | Sign::Not | Sign::Constant) => Some(&[
-            Item::Terms,
-        ]),
-        (Item::Assumptions, Sign::Open) => Some(&[
-            Item::ANot,
-            Item::AName,
-            Item::CloseList,
-            Item::Assumptions,
-        ]),
+        (Item::Terms, Sign::Symbol | Sign::BitVec | Sign::Not) => Some(&[Item::Terms]),
+        (Item::Terms, Sign::Constant) => Some(&[Item::Terms]),
+        (Item::Assumptions, Sign::Open) => Some(&NEGATED),
         (Item::Assumptions, Sign::Symbol | Sign::BitVec | Sign::Not) => Some(&[Item::Assumptions]),
         (Item::Anything, Sign::Open) => Some(&[Item::Anything, Item::Anything]),
         (Item::Anything, _) => Some(&[Item::Anything]),

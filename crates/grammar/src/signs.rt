@@ -33,6 +33,7 @@ fn name_sign(name: &[u8]) -> Sign
     }
 }
 
+// What a token is to the forms.
 pub fn sign_of(text: &[u8], token: Token) -> Sign
     ensures { result ≡ sign (lexeme_of token.kind (bytes_of text.now token)) }
 {

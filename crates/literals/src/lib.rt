@@ -9,7 +9,7 @@ ghost use Rattle.literals.specs.BitTexts.{bit_digits, bit_text};
 
 use page::put;
 
-// Fills the row with the lowest bits of the value as digits, the highest first.
+// Fills the row with the lowest bits of the value as digits, the highest first. No method of the library writes them into a row.
 #[tactic(auto, using(crate::proofs::Digitwise::digitwise))]
 fn digits(row: &mut [u8], value: u16)
     requires { length row.old ≤ 16 }
@@ -21,7 +21,7 @@ fn digits(row: &mut [u8], value: u16)
     }
 }
 
-// Writes the literal of so many bits at `at`, and says where it ends. Read again, it is the same literal.
+// Writes the literal of so many bits at `at`, and says where it ends. Read again, it is the same literal. Page and place are two parameters as in `put`.
 #[tactic(auto, using(crate::proofs::ReadBack::read_back))]
 pub fn print_bits(page: &mut [u8], at: usize, width: u8, value: u16) -> usize
     requires room { at + 18 ≤ length page.old }

@@ -16,7 +16,7 @@ use theory::{Head, Logic, RankFault, Sort};
 
 mod rows;
 
-// The tables and a name stay two parameters: the tables' type belongs to a crate below, and can have no methods here.
+// The tables and a name stay two parameters: methods would need a trait, since the tables' type belongs to a crate below.
 
 // The logic of the session: QF_UF until another is set.
 #[tactic(auto, using(crate::proofs::Shown::logic_shown, crate::proofs::Shown::logic_or_is))]

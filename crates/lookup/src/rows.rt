@@ -32,7 +32,7 @@ pub fn number_of<R: Named>(rows: &[R], name: &[u8]) -> Option<u8>
 pub fn declared_rank(rows: &[FunctionRow], number: u8, parts: &[Sort]) -> Result<Sort, RankFault>
     ensures { result ≡ given (same_sorts (slice_index_or (map function_in rows.now) number no_function).arguments parts.now) (slice_index_or (map function_in rows.now) number no_function).result }
 {
-    match rows.get(number as usize) {
+    match rows.get(usize::from(number)) {
         Some(row) if same_sorts(row.arguments.as_slice(), parts) => Ok(row.result),
         None if parts.is_empty() => Ok(Sort::Bool),
         _ => Err(RankFault::Mismatch),

@@ -63,6 +63,6 @@ cut-only (p ∷ ps) (suc n) s h (g, rest, e, k, w, c) =
     let short : length rest ≤ n = omega (arith, measured_some p rest m, ap length e, length-append g (p ++ rest), length-append p rest) in
     ap (λ z. p ∷ z) (cut-only ps n rest short c) ∙ sym (behind n g p rest k m) ∙ ap (cut_up (suc n)) (sym e)
 
-pub only-cut : (script : List ℕ) → OnlyCut script
+pub only_cut : (script : List ℕ) → OnlyCut script
 unfolding pieces
-only-cut script = record { cut = cut_up_lem (length script) script (omega arith); only = λ ps c. cut-only ps (length script) script (omega arith) c }
+only_cut script = record { cut = cut_up_lem (length script) script (omega arith); only = λ ps c. cut-only ps (length script) script (omega arith) c }

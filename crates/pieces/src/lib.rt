@@ -22,7 +22,7 @@ fn ends_atom(byte: u8) -> bool
     matches!(char::from(byte), '\t' | '\n' | '\r' | ' ' | '(' | ')' | ';')
 }
 
-// How many bytes at the front belong to an atom.
+// How many bytes at the front belong to an atom. As in the crate of characters, each length is told to lie within the text.
 fn atom_len(text: &[u8]) -> usize
     ensures value { result ≡ prefix_len (λ b. not (ends_atom b)) text.now }
     ensures within { result ≤ length text.now }

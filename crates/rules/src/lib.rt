@@ -116,20 +116,14 @@ impl Reply {
     pub fn number(self) -> u8
         ensures { result ≡ number_in self.outcome }
     {
-        match self.outcome {
-            Ok(_) => 0,
-            Err(fault) => fault.number(),
-        }
+        self.outcome.err().map_or(0, Fault::number)
     }
 
     // The place that the refusal points at, 0 for an accepted command.
     pub fn place(self) -> usize
         ensures { result ≡ place_in self.outcome }
     {
-        match self.outcome {
-            Ok(_) => 0,
-            Err(fault) => fault.place(),
-        }
+        self.outcome.err().map_or(0, Fault::place)
     }
 }
 

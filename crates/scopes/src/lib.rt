@@ -8,7 +8,7 @@ ghost use Rattle.scopes.specs.Depths.{deep, AddDepths, CloseDepths};
 
 pub mod table;
 
-// The scoped stack over a table of its holder. No method of the table: no clause says what becomes of a table that lends four fields.
+// The scoped stack over a table of its holder. No method of the table: the check's rules for borrows don't cover a function that lends an array whose length is a parameter.
 #[macro_export]
 macro_rules! stack {
     ($t:expr) => {
@@ -38,8 +38,8 @@ pub struct ScopedStack<'a, 'b, 'c, 'd, T: Copy> {
 impl<'a, 'b, 'c, 'd, T: Copy> ScopedStack<'a, 'b, 'c, 'd, T> {
     ghost use Rattle.scopes.specs.Lent.{held, room, deepest, Same, AddCounts, OpenCounts, CloseCounts};
 
-    // `same` stands in each method's contract, since it speaks of before and after, which no field can.
     // Adds a row to the newest level.
+    // `same` stands in each method's contract, since it speaks of before and after, which no field can.
     #[tactic(auto, using(crate::proofs::Depths::add_deep, std::proofs::lemmas::List::take_more_set))]
     pub fn add(&mut self, row: T) -> Result<(), NoRoom>
         ensures view { (held self.new, result) ≡ added (room self.old) (held self.old) row }

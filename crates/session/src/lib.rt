@@ -62,10 +62,10 @@ impl Session {
         Ok(Said::Success)
     }
 
-    fn set_logic(&mut self, text: &[u8], name: Token) -> Result<Said, Fault>
-        ensures { (view self.new, result) ≡ logic_set (view self.old) (logic_of (bytes_of text.now name)) name.from }
+    fn set_logic(&mut self, name: &[u8], place: usize) -> Result<Said, Fault>
+        ensures { (view self.new, result) ≡ logic_set (view self.old) (logic_of name.now) place }
     {
-        let logic = logic_of(bytes_of(text, name)).ok_or(Fault::Logic(name.from))?;
+        let logic = logic_of(name).ok_or(Fault::Logic(place))?;
         self.logic = Some(logic);
         self.succeed()
     }
@@ -73,7 +73,7 @@ impl Session {
     fn push(&mut self, levels: u16, place: usize) -> Result<Said, Fault>
         ensures { (view self.new, result) ≡ pushed (view self.old) levels place }
     {
-        let depth = self.depth as u32 + levels as u32;
+        let depth = u32::from(self.depth) + u32::from(levels);
         if depth > 63 {
             return Err(Fault::Depth(place));
         }
@@ -84,17 +84,17 @@ impl Session {
     fn pop(&mut self, levels: u16, place: usize) -> Result<Said, Fault>
         ensures { (view self.new, result) ≡ popped (view self.old) levels place }
     {
-        if levels > self.depth as u16 {
+        if levels > u16::from(self.depth) {
             return Err(Fault::Depth(place));
         }
         self.depth -= levels as u8;
         self.succeed()
     }
 
-    fn get_info(&self, text: &[u8], keyword: Token) -> Result<Said, Fault>
-        ensures { (view self.now, result) ≡ executed (view self.now) (info_of (bytes_of text.now keyword)) }
+    fn get_info(&self, keyword: &[u8]) -> Result<Said, Fault>
+        ensures { (view self.now, result) ≡ executed (view self.now) (info_of keyword.now) }
     {
-        if asks_reason(bytes_of(text, keyword)) {
+        if asks_reason(keyword) {
             Err(Fault::Mode)
         } else {
             Ok(Said::Unsupported)
@@ -118,13 +118,16 @@ impl Session {
         Ok(Said::Success)
     }
 
-    // A command in form: each meets the mode that it finds.
+    // A command in form: each meets the mode that it finds. One match on mode and command, a rule of the project.
     fn execute(&mut self, text: &[u8], command: Command) -> Result<Said, Fault>
         ensures { (view self.new, result) ≡ executed (view self.old) (request_of text.now command) }
     {
         match (self.mode, command) {
-            (_, Command::GetInfo(keyword)) => self.get_info(text, keyword),
-            (Mode::Start, Command::SetLogic(name)) => self.set_logic(text, name),
+            (_, Command::GetInfo(keyword)) => self.get_info(bytes_of(text, keyword)),
+            (Mode::Start, Command::SetLogic(name)) => self.set_logic(
+                bytes_of(text, name),
+                name.from,
+            ),
             (_, Command::SetLogic(_)) => Err(Fault::Mode),
             (Mode::Start, Command::Push(_, _)) => Err(Fault::Mode),
             (_, Command::Push(levels, place)) => self.push(levels, place),
@@ -149,7 +152,7 @@ impl Session {
     }
 }
 
-// Writes the word of an accepted command at the front of the page, and says how many bytes it has.
+// Writes the word of an accepted command at the front of the page, and says how many bytes it has. Into a page, and by no `Display`, since the session takes no memory. Its room is a clause, as in the crate of pages.
 fn print(page: &mut [u8], said: Said) -> usize
     requires { 64 ≤ length page.old }
     ensures { Wrote page.old 0 (printed said) page.new result }

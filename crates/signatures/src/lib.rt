@@ -98,6 +98,7 @@ impl Signature {
         Ok(())
     }
 
+    // A method of its own, since the law of `read` stays open where its loop stands in it.
     fn follow(&mut self, tables: &Tables, tokens: Tokens<'_>) -> Result<(), SortFault>
         requires { items_in self.old.sorts ≡ [] }
         ensures { read (scope_of (record_of tables.now)) (listed_in self.old) (marks tokens.entry.text.now tokens.entry.rows.now) ≡ placed result (listed_in self.new) }
@@ -129,6 +130,7 @@ impl Signature {
     pub fn row(&self, name: Name) -> Option<FunctionRow>
         ensures { option_map row_function result ≡ few_arguments (function_in (name_in name) (listed_in self.now)) }
     {
+        // the definition takes no arguments before their list was closed, and Bool where no sort follows them
         let arity = self.arity.unwrap_or(0);
         let sorts = self.sorts.as_slice();
         let arguments = Short::of(Sort::Bool, &sorts[..arity.min(sorts.len())])?;

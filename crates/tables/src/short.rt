@@ -1,4 +1,4 @@
-// A list kept in place and copied with the row that holds it, as the kit's `ArrayVec` is not.
+// A list kept in place. The kit's `ArrayVec` is no `Copy`, as rows have to be, and writes a blank for each item that it clears.
 ghost use Rattle.std.specs.Prelude.{◌≡◌, ◌++◌, ◌<◌, ◌≤◌, [], ◌∷◌, cond, length, nat_le, Some, None, ⊤};
 ghost use Rattle.std.specs.Option.{option_map};
 
@@ -11,6 +11,7 @@ pub struct Short<T: Copy, const N: usize> {
     pub ghost few: { count ≤ N },
 }
 
+// By hand: no derive makes a `Clone` for a generic struct with a ghost field.
 impl<T: Copy, const N: usize> Clone for Short<T, N> {
     ghost is_clone = { λ x y. y ≡ x };
 

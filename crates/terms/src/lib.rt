@@ -1,4 +1,4 @@
-// What stands in a session: declared sorts and functions, terms and assertions, in tables of fixed size.
+// Terms and their sorts: the definitions, and why a term isn't taken.
 #![tactic(auto)]
 
 // Why a term or a sort isn't taken, with the place.

@@ -104,7 +104,7 @@ fn operation_rank(operation: Operation, parts: &[Sort]) -> Result<Sort, RankFaul
     }
 }
 
-// The sort of an application of the function to parts of these sorts.
+// The sort of an application of the function to parts of these sorts: one arm for functions of one rank, so that the match is the table of ranks.
 #[tactic(auto, unfolding(crate::specs::Ranks::rank))]
 pub fn rank(logic: Logic, operator: Operator, parts: &[Sort]) -> Result<Sort, RankFault>
     ensures { result ≡ rank logic operator parts.now }

@@ -117,7 +117,7 @@ impl Place<'_> {
         named(Kind::Keyword, from, end)
     }
 
-    // The token that begins here.
+    // The token that begins here: one class an arm, as the rules list them.
     fn token(self) -> Result<Token, TokenFault>
         ensures value { result ≡ lexeme_at (class_of (slice_index self.entry.text.bytes.now self.entry.from)) self.entry }
         ensures within { EndsBehind self.entry result }
@@ -176,7 +176,7 @@ pub fn lex<'a>(text: Text<'a>, table: &'a mut [Token; 4096]) -> Result<Tokens<'a
     })
 }
 
-// The bytes of a token; as many of them as the text has.
+// The bytes of a token; as many of them as the text has. Text and token are two parameters, since a text has many tokens.
 pub fn bytes_of<'a>(text: &'a [u8], token: Token) -> &'a [u8]
     ensures { result.now ≡ bytes_of text.now token }
 {

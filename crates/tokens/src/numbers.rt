@@ -8,12 +8,7 @@ fn digit_of(byte: u8) -> Option<u16>
     ensures value { result ≡ digit_of byte }
     ensures small { IfSome result (λ d. d < 16) }
 {
-    match byte {
-        b'0'..=b'9' => Some((byte - b'0') as u16),
-        b'a'..=b'f' => Some((byte - b'a') as u16 + 10),
-        b'A'..=b'F' => Some((byte - b'A') as u16 + 10),
-        _ => None,
-    }
+    char::from(byte).to_digit(16).map(|digit| digit as u16)
 }
 
 // The value of a digit in a base.
