@@ -92,9 +92,9 @@ pub fn skip_gap(text: &[u8], at: usize) -> usize
     let mut comment = false;
     for (i, &byte) in text[at..].iter().enumerate() {
         match char::from(byte) {
-            '\n' | '\r' => comment = false,
+            c if comment => comment = c != '\n' && c != '\r',
             ';' => comment = true,
-            _ if comment || is_blank(byte) => {}
+            _ if is_blank(byte) => {}
             _ => return at + i,
         }
     }

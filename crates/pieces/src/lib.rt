@@ -40,8 +40,7 @@ fn list_len(text: &[u8]) -> usize
     let mut depth: usize = 1;
     for (i, &byte) in text.iter().enumerate() {
         match char::from(byte) {
-            '\n' | '\r' => comment = false,
-            _ if comment => {}
+            c if comment => comment = c != '\n' && c != '\r',
             ';' => comment = true,
             '(' => depth += 1,
             ')' if depth == 1 => return i + 1,
