@@ -1,10 +1,10 @@
 // Cutting a script into pieces: lists with their closing parentheses, stray closing parentheses, and atoms.
 #![tactic(auto)]
 
-ghost use Rattle.std.specs.Prelude.{◌≡◌, ℕ, ◌+◌, ◌<◌, ◌≤◌, Bool, true, false, not, List, length, drop};
+ghost use Rattle.std.specs.Prelude.{◌≡◌, ℕ, ◌≤◌, false, not, List, length};
 ghost use Rattle.std.specs.List.{prefix_len};
 ghost use Rattle.std.specs.Iterator.{YieldsFirstRef, item_count};
-ghost use Rattle.pieces.specs.Cuts.{ends_atom, list_length, atom_length, piece_length, piece, pieces, Within, Next};
+ghost use Rattle.pieces.specs.Cuts.{ends_atom, list_length, piece_length, piece, pieces, Within, Next};
 ghost use Rattle.pieces.specs.Laws.{OnlyCut};
 
 use std::marker::Model;
