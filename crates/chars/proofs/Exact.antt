@@ -1,5 +1,5 @@
 -- Every byte belongs to exactly one class.
-use Rattle.std.proofs.Common.{◌≡◌, ℕ, Bool, true, cond, not, ◌||◌, eqb, arith}
+use Rattle.std.proofs.Common.{◌≡◌, ℕ, Bool, true, cond, not, ◌||◌, eqb, sym, subst, arith}
 use Rattle.std.proofs.lemmas.Bool.Decides.{nat_tests}
 use Rattle.chars.specs.declared.Class.{Class}
 use Rattle.chars.specs.declared.Class.TheVariants.{Blank, Open, Close, Semicolon, Hash, Colon, Digit, Symbol, Stray}
@@ -27,3 +27,7 @@ only b Stray h = stray (is_blank b) (eqb b 40) (eqb b 41) (eqb b 59) (eqb b 35) 
 
 pub exactly : (b : ℕ) → Exactly b (classes b)
 exactly b = record { one = one b; only = only b }
+
+-- the class that a byte has by its tests is the one that it belongs to
+pub exactly_by : (b : ℕ) (c : Class) → c ≡ classes b → Exactly b c
+exactly_by b c e = subst (Exactly b) (sym e) (exactly b)

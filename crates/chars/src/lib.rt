@@ -1,9 +1,9 @@
 // The characters of a script: the class of each byte, and the runs that blanks, comments and words make.
 #![tactic(auto)]
 
-ghost use Rattle.std.specs.Prelude.{◌≡◌, ℕ, ◌+◌, ◌≤◌, Bool, true, false, length, drop};
+ghost use Rattle.std.specs.Prelude.{◌≡◌, ◌+◌, ◌≤◌, false, length, drop};
 ghost use Rattle.std.specs.List.{prefix_len};
-ghost use Rattle.chars.specs.Classes.{classes, class_of, is_mark, is_blank, is_word, Exactly};
+ghost use Rattle.chars.specs.Classes.{class_of, is_mark, is_blank, is_word, Exactly};
 ghost use Rattle.chars.specs.Runs.{gap, run};
 ghost use Rattle.chars.specs.Gaps.{Skipped};
 
@@ -47,7 +47,7 @@ fn is_mark(c: char) -> bool
 }
 
 // The one class of a byte.
-#[tactic(auto, unfolding(crate::specs::Classes::class_of), using(crate::proofs::Exact::exactly))]
+#[tactic(auto, unfolding(crate::specs::Classes::class_of), using(crate::proofs::Exact::exactly_by))]
 pub fn class_of(byte: u8) -> Class
     ensures value { result ≡ class_of byte }
     ensures law { Exactly byte result }
@@ -94,9 +94,9 @@ pub fn skip_gap(text: &[u8], at: usize) -> usize
     let mut comment = false;
     for (i, &byte) in text[at..].iter().enumerate() {
         match char::from(byte) {
-            '\n' | '\r' => comment = false,
+            c if comment => comment = c != '\n' && c != '\r',
             ';' => comment = true,
-            _ if comment || is_blank(byte) => {}
+            _ if is_blank(byte) => {}
             _ => return at + i,
         }
     }

@@ -1,7 +1,7 @@
 // Writing into a page: bytes, numbers, and the line that reports an error. The caller sees to the room.
 #![tactic(auto)]
 
-ghost use Rattle.std.specs.Prelude.{◌≡◌, ℕ, ◌+◌, ◌≤◌, length, drop, decimal};
+ghost use Rattle.std.specs.Prelude.{◌+◌, ◌≤◌, length, decimal};
 ghost use Rattle.page.specs.Pages.{Wrote, complaint};
 
 use itoa::Buffer;

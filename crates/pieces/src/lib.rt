@@ -1,10 +1,10 @@
 // Cutting a script into pieces: lists with their closing parentheses, stray closing parentheses, and atoms.
 #![tactic(auto)]
 
-ghost use Rattle.std.specs.Prelude.{◌≡◌, ℕ, ◌+◌, ◌<◌, ◌≤◌, Bool, true, false, not, List, length, drop};
+ghost use Rattle.std.specs.Prelude.{◌≡◌, ℕ, ◌≤◌, false, not, List, length};
 ghost use Rattle.std.specs.List.{prefix_len};
 ghost use Rattle.std.specs.Iterator.{YieldsFirstRef, item_count};
-ghost use Rattle.pieces.specs.Cuts.{ends_atom, list_length, atom_length, piece_length, piece, pieces, Within, Next};
+ghost use Rattle.pieces.specs.Cuts.{ends_atom, list_length, piece_length, piece, pieces, Within, Next};
 ghost use Rattle.pieces.specs.Laws.{OnlyCut};
 
 use std::marker::Model;
@@ -40,8 +40,7 @@ fn list_len(text: &[u8]) -> usize
     let mut depth: usize = 1;
     for (i, &byte) in text.iter().enumerate() {
         match char::from(byte) {
-            '\n' | '\r' => comment = false,
-            _ if comment => {}
+            c if comment => comment = c != '\n' && c != '\r',
             ';' => comment = true,
             '(' => depth += 1,
             ')' if depth == 1 => return i + 1,
