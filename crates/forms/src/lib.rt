@@ -14,7 +14,7 @@ use tokens::text::Tokens;
 use tokens::{Kind, Token};
 use words::Word;
 
-// A command in form. Logic and keyword are told by their token, a numeral by its value and place.
+// A command in form. Logic and keyword are told by their token, a numeral by its value and place: two numbers, since just two commands have one.
 #[derive(Clone, Copy, Debug, PartialEq, Eq)]
 pub enum Command {
     SetLogic(Token),
