@@ -28,7 +28,7 @@ pub fn number_of<R: Named>(rows: &[R], name: &[u8]) -> Option<u8>
     Some(place as u8)
 }
 
-// The sort of an application of the function with this number to parts of these sorts. Past the last function stands a constant of sort Bool.
+// The sort of an application of the function with this number to parts of these sorts. Past the last function the definition has a constant of sort Bool.
 pub fn declared_rank(rows: &[FunctionRow], number: u8, parts: &[Sort]) -> Result<Sort, RankFault>
     ensures { result ≡ given (same_sorts (slice_index_or (map function_in rows.now) number no_function).arguments parts.now) (slice_index_or (map function_in rows.now) number no_function).result }
 {

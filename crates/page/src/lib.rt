@@ -28,6 +28,7 @@ pub fn number(page: &mut [u8], at: usize, n: usize) -> usize
 }
 
 // Writes the line `(error "CODE PLACE")` at the front of the page, and says where it ends. The code is a number here, since the faults belong to the crates above.
+// By hand: `write!` promises its text only where it succeeds, and no clause says when it does; this line can't fail.
 // Its room is a clause: a row of 64 bytes cut from the page would have to be put back into it in each clause.
 #[tactic(auto, using(crate::proofs::Writing::room))]
 pub fn error(page: &mut [u8], code: u8, place: usize) -> usize

@@ -64,7 +64,7 @@ fn piece_len(text: &[u8]) -> usize
     }
 }
 
-// The next piece at or behind `at`; none if only blanks and comments are left.
+// The next piece at or behind `at`; none if only blanks and comments are left. Text and place are two parameters, since the answer has places in the whole text.
 pub fn next_piece(script: &[u8], at: usize) -> Option<Piece>
     requires { at ≤ length script.now }
     ensures result { result ≡ piece script.now at }

@@ -8,7 +8,7 @@ ghost use Rattle.scopes.specs.Depths.{deep, AddDepths, CloseDepths};
 
 pub mod table;
 
-// The scoped stack over a table of its holder. No method of the table: the check's rules for borrows don't cover a function that lends an array whose length is a parameter.
+// The scoped stack over a table of its holder. No method of the table: the check's rules for borrows don't cover a function that puts a lent array, whose length is a parameter, into a struct.
 #[macro_export]
 macro_rules! stack {
     ($t:expr) => {
@@ -26,6 +26,7 @@ pub struct TooMany;
 
 // The first `count` rows stand. The first `depth` levels are open: each says how many rows stood when it was opened.
 // With a lifetime for each field, one function can lend several tables of one row type in turn.
+// A struct over lent slices, a rule of the project: the tables and their counts belong to the holder.
 #[derive(Drop)]
 pub struct ScopedStack<'a, 'b, 'c, 'd, T: Copy> {
     pub rows: &'a mut [T],

@@ -152,7 +152,7 @@ impl Session {
     }
 }
 
-// Writes the word of an accepted command at the front of the page, and says how many bytes it has. Into a page, and by no `Display`, since the session takes no memory. Its room is a clause, as in the crate of pages.
+// Writes the word of an accepted command at the front of the page, and says how many bytes it has. By `put`, and by no `Display`: `write!` promises its text only where it succeeds, and no clause says when it does. Its room is a clause, as in the crate of pages.
 fn print(page: &mut [u8], said: Said) -> usize
     requires { 64 ≤ length page.old }
     ensures { Wrote page.old 0 (printed said) page.new result }
@@ -196,7 +196,7 @@ impl Session {
         }
     }
 
-    // An `exit` was accepted.
+    // An `exit` was accepted. By a pattern, so that the line stands once in the file, as an edit that must fail wants it.
     pub fn has_ended(&self) -> bool
         ensures { result ≡ (view self.now).ended }
     {

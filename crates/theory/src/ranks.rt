@@ -90,6 +90,7 @@ fn joined(parts: &[Sort]) -> Result<Sort, RankFault>
     }
 }
 
+// One arm for operations of one rank, as in `rank`.
 fn operation_rank(operation: Operation, parts: &[Sort]) -> Result<Sort, RankFault>
     ensures { result ≡ operation_rank operation parts.now }
 {

@@ -122,9 +122,9 @@ impl Place<'_> {
         ensures value { result ≡ lexeme_at (class_of (slice_index self.entry.text.bytes.now self.entry.from)) self.entry }
         ensures within { EndsBehind self.entry result }
     {
-        let from = self.from;
+        let Place { text, from } = self;
         let end = from + 1;
-        match class_of(self.text.bytes[from]) {
+        match class_of(text.bytes[from]) {
             Class::Open => Ok(Token {
                 kind: Kind::Opening,
                 from,
@@ -144,7 +144,7 @@ impl Place<'_> {
     }
 }
 
-// The next token at or behind `at`, if there is one.
+// The next token at or behind `at`, if there is one. Text and place are two parameters, since the answer has places in the whole text.
 fn next_token(text: Text<'_>, at: usize) -> Result<Option<Token>, TokenFault>
     requires { at ≤ length text.bytes.now }
     ensures value { result ≡ next text.entry.bytes.now at }
