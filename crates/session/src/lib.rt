@@ -19,7 +19,7 @@ use page::{error, put};
 use rules::{Fault, Mode, Reply, Said};
 use theory::Logic;
 use tokens::text::Text;
-use tokens::{Kind, Token, bytes_of, lex};
+use tokens::{Kind, Token, bytes_of};
 use words::spelled::first;
 
 pub mod store;
@@ -47,7 +47,7 @@ fn read(
 ) -> Result<Command, Fault>
     ensures { result ≡ reading text.entry.bytes.now }
 {
-    let tokens = lex(text, table)?;
+    let tokens = tokens::read(text, table)?;
     Ok(forms::read(tokens, items)?)
 }
 

@@ -1,9 +1,9 @@
 -- What a turn of the reading loop keeps.
-use Rattle.std.proofs.Common.{◌≡◌, ℕ, zero, suc, ◌+◌, ◌-◌, ◌<◌, ◌≤◌, List, [], ◌∷◌, ◌++◌, length, take, set, Some, None, Ok, Err, Result, sym, refl, ap, ◌∙◌, append_assoc, append-nil, arith, length-set}
-use Rattle.std.proofs.lemmas.List.{take_more_set}
+use Rattle.std.proofs.Common.{◌≡◌, ℕ, zero, suc, ◌+◌, ◌-◌, ◌<◌, ◌≤◌, List, [], ◌∷◌, ◌++◌, length, take, set, Some, None, Ok, Err, Result, sym, refl, ap, ◌∙◌, subst, append_assoc, append-nil, arith, length-set}
+use Rattle.std.proofs.lemmas.List.{take_more_set, length-take-le}
 use Rattle.tokens.specs.declared.Token.{Token}
 use Rattle.tokens.specs.declared.TokenFault.{TokenFault}
-use Rattle.tokens.specs.Lexing.{next, onto, before, tokens_from, tokens}
+use Rattle.tokens.specs.Lexing.{next, onto, before, tokens_from, tokens, Rows}
 
 before_nil : (r : Result (List Token) TokenFault) → before [] r ≡ r
 before_nil (Ok ts) = refl
@@ -48,8 +48,22 @@ one_more text table n at t short fwd in-text e s =
       long = simp length-set s.long;
     }
 
-pub done : (text : List ℕ) (table : List Token) (n at : ℕ) → next text at ≡ Ok None → Sofar text table n at → Ok (take n table) ≡ tokens text
-done text table n at e s = ap Ok (sym (append-nil _)) ∙ sym (ap (before (take n table)) (none _ text at e)) ∙ s.left
+pub done : (text : List ℕ) (table : List Token) (n at : ℕ) → length text ≤ 4096 → next text at ≡ Ok None → Sofar text table n at → Rows (tokens text) table (Ok n)
+done text table n at short e s =
+    let same : tokens text ≡ Ok (take n table) = sym s.left ∙ ap (before (take n table)) (none _ text at e) ∙ ap Ok (append-nil _) in
+    let long : length (take n table) ≡ n = length-take-le n table (omega (arith, s.long, s.fewer, s.within)) in
+    subst (λ r. Rows r table (Ok n)) (sym same) (ap Ok (sym long), ap (λ j. take j table) long)
 
-pub refused : (text : List ℕ) (table : List Token) (n at : ℕ) (f : TokenFault) → at < length text → next text at ≡ Err f → Sofar text table n at → Err f ≡ tokens text
-refused text table n at f inside e s = sym (ap (before (take n table)) (fault _ text at f e (omega (arith, s.fewer)))) ∙ s.left
+pub refused : (text : List ℕ) (table rows : List Token) (n at : ℕ) (f : TokenFault) → at < length text → next text at ≡ Err f → Sofar text table n at → Rows (tokens text) rows (Err f)
+refused text table rows n at f inside e s =
+    let same : tokens text ≡ Err f = sym s.left ∙ ap (before (take n table)) (fault _ text at f e (omega (arith, s.fewer))) in
+    subst (λ r. Rows r rows (Err f)) (sym same) refl
+
+-- what the rows are, once they are in the table
+pub rows_read : (r : Result (List Token) TokenFault) (table : List Token) (n : ℕ) → Rows r table (Ok n) → Ok (take n table) ≡ r
+rows_read (Ok ts) table n (k, e) = let same : n ≡ length ts = cc in ap Ok (ap (λ j. take j table) same ∙ e)
+rows_read (Err f) table n e = cc
+
+pub rows_refused : (r : Result (List Token) TokenFault) (table : List Token) (f : TokenFault) → Rows r table (Err f) → Err f ≡ r
+rows_refused (Ok ts) table f (k, e) = cc
+rows_refused (Err g) table f e = let same : f ≡ g = cc in ap Err same

@@ -1,5 +1,5 @@
 -- The tokens of a text.
-use Rattle.std.specs.Prelude.{ℕ, zero, suc, ◌+◌, ◌-◌, Bool, true, false, cond, ◌&&◌, List, [], ◌∷◌, ◌++◌, length, take, drop, Some, None, Ok, Err, Option, Result, nat_le, nat_lt, slice_index}
+use Rattle.std.specs.Prelude.{◌≡◌, ℕ, zero, suc, ◌+◌, ◌-◌, Bool, true, false, cond, ◌&&◌, List, [], ◌∷◌, ◌++◌, length, take, drop, Some, None, Ok, Err, Option, Result, nat_le, nat_lt, slice_index}
 use Rattle.chars.specs.declared.Class.{Class}
 use Rattle.chars.specs.declared.Class.TheVariants.{Blank, Open, Close, Semicolon, Hash, Colon, Digit, Symbol, Stray}
 use Rattle.chars.specs.Classes.{class_of}
@@ -83,6 +83,11 @@ tokens_from (suc most) text at = onto (next text at) (λ t. tokens_from most tex
 -- The tokens of a text, of which there are no more than bytes; or the first fault.
 abbrev pub tokens : List ℕ → Result (List Token) TokenFault
 tokens text = tokens_from (length text) text 0
+
+-- The table's first rows are the tokens, as many as is answered; or the fault is answered.
+abbrev pub Rows : Result (List Token) TokenFault → List Token → Result ℕ TokenFault → Type 0
+Rows (Ok ts) table r = (r ≡ Ok (length ts)) × (take (length ts) table ≡ ts)
+Rows (Err e) table r = r ≡ Err e
 
 -- The bytes of a token.
 abbrev pub bytes_of : List ℕ → Token → List ℕ

@@ -5,7 +5,7 @@ ghost use Rattle.std.specs.Prelude.{◌≡◌, ℕ, ◌+◌, ◌-◌, ◌<◌, �
 ghost use Rattle.chars.specs.Classes.{class_of};
 ghost use Rattle.chars.specs.Runs.{gap, run};
 ghost use Rattle.chars.specs.declared.Class.TheVariants.{Hash, Colon, Digit, Symbol};
-ghost use Rattle.tokens.specs.Lexing.{named, starts_symbol, next, tokens, bytes_of};
+ghost use Rattle.tokens.specs.Lexing.{named, starts_symbol, next, tokens, Rows, bytes_of};
 ghost use Rattle.tokens.specs.Reads.{lexeme_at, EndsInside, EndsBehind, rows_in};
 ghost use Rattle.tokens.specs.Spelling.{LexLaw};
 
@@ -157,19 +157,28 @@ fn next_token(text: Text<'_>, at: usize) -> Result<Option<Token>, TokenFault>
     Ok(Some(Place { text, from }.token()?))
 }
 
-// The tokens of the text; they are kept in the table, whose filled rows are counted, since it is fixed memory.
-pub fn lex<'a>(text: Text<'a>, table: &'a mut [Token; 4096]) -> Result<Tokens<'a>, TokenFault>
-    ensures rows { rows_in result ≡ tokens text.entry.bytes.now }
-    ensures text { IfOk result (λ ts. ts.text.now ≡ text.entry.bytes.now) }
+// Reads the tokens of the text into the table, and says how many they are: the filled rows are counted, since the table is fixed memory.
+pub fn lex(text: Text<'_>, table: &mut [Token; 4096]) -> Result<usize, TokenFault>
+    ensures rows { Rows (tokens text.entry.bytes.now) table.new result }
+    ensures few { IfOk result (λ n. n ≤ 4096) }
     ensures law { LexLaw text.entry.bytes.now (tokens text.entry.bytes.now) }
 {
     let mut at = 0;
-    let mut count: usize = 0;
+    let mut count = 0;
     while let Some(token) = next_token(text, at)? {
         table[count] = token;
         count += 1;
         at = token.end;
     }
+    Ok(count)
+}
+
+// The tokens of the text with the text itself; the table keeps them.
+pub fn read<'a>(text: Text<'a>, table: &'a mut [Token; 4096]) -> Result<Tokens<'a>, TokenFault>
+    ensures rows { rows_in result ≡ tokens text.entry.bytes.now }
+    ensures text { IfOk result (λ ts. ts.text.now ≡ text.entry.bytes.now) }
+{
+    let count = lex(text, table)?;
     Ok(Tokens {
         text: text.bytes,
         rows: &table[..count],
