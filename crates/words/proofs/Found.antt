@@ -18,11 +18,6 @@ unfolding same
 same_equal xs ys h = (compares_Decides same (search rules) xs ys).0 h
 
 module _ {A : Type 0} where
-  -- `find` in the table, by the test of a spelling.
-  pub find_first : (written : A → List ℕ) (xs : List A) (bs : List ℕ) → find (λ x. same bs (written x)) xs ≡ first written xs bs
-  find_first written [] bs = refl
-  find_first written (x ∷ xs) bs = ap (λ r. cond (same bs (written x)) (Some x) r) (find_first written xs bs)
-
   -- `find` in the table, by `==` with the spelling.
   pub find_is : (written : A → List ℕ) (xs : List A) (bs : List ℕ) → find (λ x. pointwise eqb bs (written x)) xs ≡ first written xs bs
   find_is written [] bs = refl
