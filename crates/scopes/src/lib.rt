@@ -39,6 +39,7 @@ pub struct ScopedStack<'a, 'b, 'c, 'd, T: Copy> {
 
 impl<'a, 'b, 'c, 'd, T: Copy> ScopedStack<'a, 'b, 'c, 'd, T> {
     // Adds a row to the newest level.
+    // `same` stands in each method's contract, since it speaks of before and after, which no field can.
     #[tactic(auto, using(crate::proofs::Depths::add_deep))]
     pub fn add(&mut self, row: T) -> Result<(), NoRoom>
         requires { Good self.old }

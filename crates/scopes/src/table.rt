@@ -1,6 +1,6 @@
 // A table of fixed size with room for 63 levels, lent to the scoped stack by its holder.
 ghost use Rattle.std.specs.Prelude.{◌≡◌, ◌≤◌, [], length};
-ghost use Rattle.scopes.specs.Tables.{shown};
+ghost use Rattle.scopes.specs.Tables.{shown, Tidy};
 
 // Arrays with counts beside them, since the stack lends slices and nothing below the script takes memory from a heap. A table may be built of any parts; the stack's methods ask that it is sound.
 #[derive(Drop)]
@@ -14,7 +14,8 @@ pub struct Table<T: Copy, const N: usize> {
 impl<T: Copy, const N: usize> Table<T, N> {
     // A table in which nothing stands.
     pub fn new(blank: T) -> Self
-        ensures { shown result ≡ record { rows = []; levels = [] } }
+        ensures view { shown result ≡ record { rows = []; levels = [] } }
+        ensures sound { Tidy result }
     {
         Table {
             rows: [blank; N],
