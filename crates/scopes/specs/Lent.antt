@@ -3,12 +3,16 @@ use Rattle.std.specs.Prelude.{◌≡◌, ℕ, length, Result}
 use Rattle.scopes.specs.declared.ScopedStack.{ScopedStack}
 use Rattle.scopes.specs.declared.NoRoom.{NoRoom}
 use Rattle.scopes.specs.declared.TooMany.{TooMany}
-use Rattle.scopes.specs.Stacks.{Scoped, view, Grows, Falls}
+use Rattle.scopes.specs.Stacks.{Scoped, view, Sound, Grows, Falls}
 
 module _ {A : Type 0} where
   -- what the tables stand for
   abbrev pub held : ScopedStack A → Scoped A
   held s = view s.rows.now s.count.now s.levels.now s.depth.now
+
+  -- the soundness of the tables
+  abbrev pub Good : ScopedStack A → Type 0
+  Good s = Sound s.rows.now s.count.now s.levels.now s.depth.now
 
   -- how many rows there is room for
   abbrev pub room : ScopedStack A → ℕ

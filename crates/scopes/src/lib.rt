@@ -2,7 +2,8 @@
 #![tactic(auto)]
 
 ghost use Rattle.std.specs.Prelude.{◌≡◌};
-ghost use Rattle.scopes.specs.Stacks.{Sound, added, opened, closed};
+ghost use Rattle.scopes.specs.Stacks.{added, opened, closed};
+ghost use Rattle.scopes.specs.Lent.{held, Good, room, deepest, Same, AddCounts, OpenCounts, CloseCounts};
 ghost use Rattle.scopes.specs.Histories.{Restores};
 ghost use Rattle.scopes.specs.Depths.{deep, AddDepths, CloseDepths};
 
@@ -27,25 +28,25 @@ pub struct TooMany;
 // The first `count` rows stand. The first `depth` levels are open: each says how many rows stood when it was opened.
 // With a lifetime for each field, one function can lend several tables of one row type in turn.
 // A struct over lent slices, a rule of the project: the tables and their counts belong to the holder.
+// The methods ask that the tables are sound, and the struct doesn't: it may be made over any tables, and emptied before the first call.
 #[derive(Drop)]
 pub struct ScopedStack<'a, 'b, 'c, 'd, T: Copy> {
     pub rows: &'a mut [T],
     pub count: &'b mut usize,
     pub levels: &'c mut [usize],
     pub depth: &'d mut usize,
-    pub ghost sound: { Sound rows.now count.now levels.now depth.now },
 }
 
 impl<'a, 'b, 'c, 'd, T: Copy> ScopedStack<'a, 'b, 'c, 'd, T> {
-    ghost use Rattle.scopes.specs.Lent.{held, room, deepest, Same, AddCounts, OpenCounts, CloseCounts};
-
     // Adds a row to the newest level.
     // `same` stands in each method's contract, since it speaks of before and after, which no field can.
-    #[tactic(auto, using(crate::proofs::Depths::add_deep, std::proofs::lemmas::List::take_more_set))]
+    #[tactic(auto, using(crate::proofs::Depths::add_deep))]
     pub fn add(&mut self, row: T) -> Result<(), NoRoom>
+        requires { Good self.old }
         ensures view { (held self.new, result) ≡ added (room self.old) (held self.old) row }
         ensures depths { AddDepths (held self.old) row (held self.new) result }
         ensures counts { AddCounts self.old self.new result }
+        ensures sound { Good self.new }
         ensures same { Same self.old self.new }
     {
         if *self.count >= self.rows.len() {
@@ -57,11 +58,13 @@ impl<'a, 'b, 'c, 'd, T: Copy> ScopedStack<'a, 'b, 'c, 'd, T> {
     }
 
     // Opens a level.
-    #[tactic(auto, using(crate::proofs::Depths::open_deep, std::proofs::lemmas::List::take_more_set))]
+    #[tactic(auto, using(crate::proofs::Depths::open_deep))]
     pub fn open(&mut self) -> Result<(), NoRoom>
+        requires { Good self.old }
         ensures view { (held self.new, result) ≡ opened (deepest self.old) (held self.old) }
         ensures depths { deep (held self.new) ≡ deep (held self.old) }
         ensures counts { OpenCounts self.old self.new result }
+        ensures sound { Good self.new }
         ensures same { Same self.old self.new }
     {
         if *self.depth >= self.levels.len() {
@@ -75,10 +78,12 @@ impl<'a, 'b, 'c, 'd, T: Copy> ScopedStack<'a, 'b, 'c, 'd, T> {
     // Closes the newest `n` levels and drops their rows.
     #[tactic(auto, using(crate::proofs::Closing::close_view, crate::proofs::Depths::close_deep, crate::proofs::Restoring::restores))]
     pub fn close(&mut self, n: usize) -> Result<(), TooMany>
+        requires { Good self.old }
         ensures view { (held self.new, result) ≡ closed (held self.old) n }
         ensures depths { CloseDepths (held self.old) n (held self.new) result }
         ensures counts { CloseCounts self.old n self.new result }
         ensures law { Restores (held self.old) n (held self.new) result }
+        ensures sound { Good self.new }
         ensures same { Same self.old self.new }
     {
         if n > *self.depth {

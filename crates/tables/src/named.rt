@@ -1,7 +1,7 @@
 // What is looked up by its name.
 ghost use Rattle.std.specs.Prelude.{◌≡◌, ℕ, List};
 
-// A trait beside `Spelled` of the words: those spellings are constants of the program, these names lie in the row and are lent with it.
+// A trait beside `Spelled` of the words: what is spelled is only asked whether it spells a name, these rows lend their name.
 pub trait Named {
     ghost name: { Self → List ℕ };
 

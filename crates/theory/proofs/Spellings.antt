@@ -1,5 +1,5 @@
 -- A function of the theories is told by its name.
-use Rattle.std.proofs.Common.{◌≡◌, ℕ, List, Some, refl, rules, subst}
+use Rattle.std.proofs.Common.{◌≡◌, ℕ, List, Some, Option, refl, rules, subst, sym}
 use Rattle.bitvec.specs.declared.Operation.TheVariants as bits
 use Rattle.words.proofs.Found.{found_spells, found_holds}
 use Rattle.theory.specs.declared.Logic.{Logic}
@@ -26,3 +26,7 @@ stands QfBv bs o e = tt
 pub named : (l : Logic) (bs : List ℕ) → Named l bs (operator_of l bs)
 unfolding operator_of
 named l bs o = (λ e. (stands l bs o e, found_spells spelling (operators l) bs o e), λ h. subst (λ x. operator_of l x ≡ Some o) h.1 (itself l o h.0))
+
+-- The law of an answer that is the defined one.
+pub named_by : (l : Logic) (bs : List ℕ) (r : Option Operator) → r ≡ operator_of l bs → Named l bs r
+named_by l bs r e = subst (λ r. Named l bs r) (sym e) (named l bs)

@@ -6,10 +6,11 @@ use crate::{Logic, Operator};
 use bitvec::Operation;
 use words::spelled::{Spelled, first};
 
-impl Spelled for Logic {
-    ghost written = { logic_spelling };
-
-    fn spelling(&self) -> &'static [u8] {
+impl Logic {
+    // How it is written.
+    pub fn spelling(&self) -> &'static [u8]
+        ensures { result.now ≡ logic_spelling self.now }
+    {
         match *self {
             Logic::QfUf => b"QF_UF",
             Logic::QfBv => b"QF_BV",
@@ -17,10 +18,20 @@ impl Spelled for Logic {
     }
 }
 
-impl Spelled for Operator {
-    ghost written = { spelling };
+impl Spelled for Logic {
+    ghost written = { logic_spelling };
 
-    fn spelling(&self) -> &'static [u8] {
+    #[tactic(auto, using(words::proofs::Found::same_is))]
+    fn spells(&self, name: &[u8]) -> bool {
+        name == self.spelling()
+    }
+}
+
+impl Operator {
+    // How it is written.
+    pub fn spelling(&self) -> &'static [u8]
+        ensures { result.now ≡ spelling self.now }
+    {
         match *self {
             Operator::True => b"true",
             Operator::False => b"false",
@@ -33,6 +44,19 @@ impl Spelled for Operator {
             Operator::Equal => b"=",
             Operator::Distinct => b"distinct",
             Operator::Bits(operation) => operation.name().as_bytes(),
+        }
+    }
+}
+
+impl Spelled for Operator {
+    ghost written = { spelling };
+
+    // An operation is compared by its own name in an arm of its own: one table of spellings inside the other makes a look-up dearer.
+    #[tactic(auto, using(words::proofs::Found::same_is))]
+    fn spells(&self, name: &[u8]) -> bool {
+        match *self {
+            Operator::Bits(operation) => name == operation.name().as_bytes(),
+            _ => name == self.spelling(),
         }
     }
 }

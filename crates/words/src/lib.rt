@@ -39,10 +39,11 @@ pub enum Word {
     Strings,
 }
 
-impl Spelled for Word {
-    ghost written = { spelling };
-
-    fn spelling(&self) -> &'static [u8] {
+impl Word {
+    // How it is written.
+    pub fn spelling(&self) -> &'static [u8]
+        ensures { result.now ≡ spelling self.now }
+    {
         match *self {
             Word::Push => b"push",
             Word::Pop => b"pop",
@@ -71,6 +72,15 @@ impl Spelled for Word {
             Word::Numerals => b"NUMERAL",
             Word::Strings => b"STRING",
         }
+    }
+}
+
+impl Spelled for Word {
+    ghost written = { spelling };
+
+    #[tactic(auto, using(crate::proofs::Found::same_is))]
+    fn spells(&self, name: &[u8]) -> bool {
+        name == self.spelling()
     }
 }
 
